@@ -1,6 +1,7 @@
 -- Two runs that treat a record alike: on states that differ in their input, in the steps that are left, and in the
 -- variables that aren't known to be the same.
-use Rattle.std.proofs.Common.{◌≡◌, ℕ, ◌+◌, Bool, true, false, List, [], ◌∷◌, ◌++◌, Option, Result, Ok, Err, refl, ap, ◌∙◌, zero, suc, ◌≤◌, le_trans}
+use Rattle.std.proofs.Common.{◌≡◌, ℕ, ◌+◌, Bool, true, false, List, [], ◌∷◌, ◌++◌, Option, Result, Ok, Err, refl, ap, ◌∙◌, zero, suc, ◌≤◌, le_trans, codes}
+use Rattle.std.specs.Prelude.{IfOk}
 use Rattle.awk_value.specs.declared.value.Value.{Value}
 use Rattle.awk_record.specs.definitions.Record.{RecordPair}
 use Rattle.awk_streams.specs.Oracle.{Source, Oracle}
@@ -31,6 +32,13 @@ pub record Sorts : Type 0 where
   pub shared : Names
   -- whether anything is shown
   pub shows : Bool
+
+-- the variables by which a record is cut into fields and made of them, and a line is printed, are known
+pub record OwnsSeparators (known : Names) : Type 0 where
+  pub fs : known (codes "FS") ≡ true
+  pub rs : known (codes "RS") ≡ true
+  pub ofs : known (codes "OFS") ≡ true
+  pub ors : known (codes "ORS") ≡ true
 
 abbrev pub AgreeOn : Names → Values → Values → Type 0
 AgreeOn names v w = (x : List ℕ) → names x ≡ true → w x ≡ v x
@@ -116,29 +124,57 @@ covers_behind sorts known base o p v w u z k l d effects (Err halt.OutOfSteps) x
 covers_behind sorts known base o p v w u z k l d effects (Err halt.Next) x y plain keeps keeps_there falls c = same_behind sorts sorts.shared base o p v w u z k l d effects x y plain keeps keeps_there falls c
 covers_behind sorts known base o p v w u z k l d effects (Err halt.Exit) x y plain keeps keeps_there falls c = absurd c
 
-go_covers : {A B : Type 0} (sorts : Sorts) (known after : Names) (base : State) (f g : A → Run B) → ((a : A) → Alike sorts known after base (f a) (g a)) → (o p : Outer) (v w : Values) (k d : ℕ) (r : Result A Halt) (t : State) (effects : List Effect) (y : Out A) → Covers sorts known base o p v w k d r (record { result = r; state = t; effects = effects }) y → Covers sorts after base o p v w k d (go_on r t effects f).result (go_on r t effects f) (go_on y.result y.state y.effects g)
-unfolding go_on
-go_covers sorts known after base f g h o p v w k d (Ok a) t effects y c =
-    rw (c.is_here, c.is_there) (covers_behind sorts after base o p v w c.here c.there k c.left d effects (f a (state_on base o c.pair c.here c.left)).result (f a (state_on base o c.pair c.here c.left)) (g a (state_on base p c.pair c.there (c.left + d))) c.plain c.keeps c.keeps_there c.falls ((h a).covers o p c.pair c.here c.there c.left d c.agrees))
-go_covers sorts known after base f g h o p v w k d (Err (halt.Fault n)) t effects y c = tt
-go_covers sorts known after base f g h o p v w k d (Err halt.OutOfSteps) t effects y c = tt
-go_covers sorts known after base f g h o p v w k d (Err halt.Next) t effects y c = rw c.is_there (record {
-  pair = c.pair;
-  left = c.left;
-  here = c.here;
-  there = c.there;
-  agrees = c.agrees;
-  keeps = c.keeps;
-  keeps_there = c.keeps_there;
-  falls = c.falls;
-  is_here = c.is_here;
-  is_there = refl;
-  plain = c.plain;
-})
-go_covers sorts known after base f g h o p v w k d (Err halt.Exit) t effects y c = absurd c
+-- the same, and this holds of each result
+pub record AlikeWith {A : Type 0} (P : A → Type 0) (sorts : Sorts) (before known : Names) (base : State) (m n : Run A) : Type 0 where
+  pub alike : Alike sorts before known base m n
+  pub holds : (s : State) → IfOk (m s).result P
+
+any_result : {A : Type 0} (r : Result A Halt) → IfOk r (λ (a : A). Unit {0})
+any_result (Ok a) = tt
+any_result (Err h) = tt
+
+pub with_any : {A : Type 0} {sorts : Sorts} {before known : Names} {base : State} {m n : Run A} → Alike sorts before known base m n → AlikeWith (λ (a : A). Unit {0}) sorts before known base m n
+with_any {m = m} x = record { alike = x; holds = λ s. any_result (m s).result }
+
+module _ {A B : Type 0} (P : A → Type 0) where
+  go_covers : (sorts : Sorts) (known after : Names) (base : State) (f g : A → Run B) → ((a : A) → P a → Alike sorts known after base (f a) (g a)) → (o p : Outer) (v w : Values) (k d : ℕ) (r : Result A Halt) (t : State) (effects : List Effect) (y : Out A) → IfOk r P → Covers sorts known base o p v w k d r (record { result = r; state = t; effects = effects }) y → Covers sorts after base o p v w k d (go_on r t effects f).result (go_on r t effects f) (go_on y.result y.state y.effects g)
+  unfolding go_on
+  go_covers sorts known after base f g h o p v w k d (Ok a) t effects y holds c =
+      rw (c.is_here, c.is_there) (covers_behind sorts after base o p v w c.here c.there k c.left d effects (f a (state_on base o c.pair c.here c.left)).result (f a (state_on base o c.pair c.here c.left)) (g a (state_on base p c.pair c.there (c.left + d))) c.plain c.keeps c.keeps_there c.falls ((h a holds).covers o p c.pair c.here c.there c.left d c.agrees))
+  go_covers sorts known after base f g h o p v w k d (Err (halt.Fault n)) t effects y holds c = tt
+  go_covers sorts known after base f g h o p v w k d (Err halt.OutOfSteps) t effects y holds c = tt
+  go_covers sorts known after base f g h o p v w k d (Err halt.Next) t effects y holds c = rw c.is_there (record {
+    pair = c.pair;
+    left = c.left;
+    here = c.here;
+    there = c.there;
+    agrees = c.agrees;
+    keeps = c.keeps;
+    keeps_there = c.keeps_there;
+    falls = c.falls;
+    is_here = c.is_here;
+    is_there = refl;
+    plain = c.plain;
+  })
+  go_covers sorts known after base f g h o p v w k d (Err halt.Exit) t effects y holds c = absurd c
+
+  go_holds : (Q : B → Type 0) (f : A → Run B) → ((a : A) → P a → (s : State) → IfOk (f a s).result Q) → (r : Result A Halt) (t : State) (effects : List Effect) → IfOk r P → IfOk (go_on r t effects f).result Q
+  unfolding go_on
+  go_holds Q f h (Ok a) t effects holds = h a holds t
+  go_holds Q f h (Err reason) t effects holds = tt
+
+pub then_where : {A B : Type 0} {P : A → Type 0} {sorts : Sorts} {before known after : Names} {base : State} {m n : Run A} (f g : A → Run B) → AlikeWith P sorts before known base m n → ((a : A) → P a → Alike sorts known after base (f a) (g a)) → Alike sorts before after base (m >>= f) (n >>= g)
+unfolding ◌>>=◌
+then_where {P = P} {sorts = sorts} {before = before} {known = known} {after = after} {base = base} {m = m} {n = n} f g x h = record {
+  covers = λ o p c v w k d agrees. go_covers P sorts known after base f g h o p v w k d (m (state_on base o c v k)).result (m (state_on base o c v k)).state (m (state_on base o c v k)).effects (n (state_on base p c w (k + d))) (x.holds (state_on base o c v k)) (x.alike.covers o p c v w k d agrees);
+}
 
 pub then_alike : {A B : Type 0} {sorts : Sorts} {before known after : Names} {base : State} {m n : Run A} (f g : A → Run B) → Alike sorts before known base m n → ((a : A) → Alike sorts known after base (f a) (g a)) → Alike sorts before after base (m >>= f) (n >>= g)
+then_alike f g x h = then_where f g (with_any x) (λ a _. h a)
+
+pub then_with : {A B : Type 0} {P : A → Type 0} {Q : B → Type 0} {sorts : Sorts} {before known after : Names} {base : State} {m n : Run A} (f g : A → Run B) → AlikeWith P sorts before known base m n → ((a : A) → P a → AlikeWith Q sorts known after base (f a) (g a)) → AlikeWith Q sorts before after base (m >>= f) (n >>= g)
 unfolding ◌>>=◌
-then_alike {sorts = sorts} {before = before} {known = known} {after = after} {base = base} {m = m} {n = n} f g x h = record {
-  covers = λ o p c v w k d agrees. go_covers sorts known after base f g h o p v w k d (m (state_on base o c v k)).result (m (state_on base o c v k)).state (m (state_on base o c v k)).effects (n (state_on base p c w (k + d))) (x.covers o p c v w k d agrees);
+then_with {P = P} {Q = Q} {m = m} f g x h = record {
+  alike = then_where f g x (λ a p. (h a p).alike);
+  holds = λ s. go_holds P Q f (λ a p. (h a p).holds) (m s).result (m s).state (m s).effects (x.holds s);
 }

@@ -19,10 +19,11 @@ use Rattle.awk_semantics.specs.definitions.Places.{AName, store, read_place, ass
 use Rattle.awk_semantics.specs.definitions.Semantics.{Functions, eval, exec_simple, pass_on, exec, exec_all}
 use Rattle.awk_semantics.specs.definitions.Items.{run_action, begin_item, begin_items}
 use Rattle.awk_semantics.specs.definitions.Meaning.{assign_all}
-use Rattle.awk_pieces.specs.definitions.Pieceable.{leaves_records, only_reads, is_plain, may_be_set, is_setting, is_simple_setting, only_sets, all_only_set, is_rule_for_itself, are_rules_for_themselves}
+use Rattle.awk_pieces.specs.definitions.Pieceable.{leaves_records, keeps_to_record, is_plain, may_be_set, is_setting, is_simple_setting, only_sets, all_only_set, is_rule_for_itself, are_rules_for_themselves}
 use Rattle.awk_pieces.specs.definitions.LawOfPieces.{all_leave_records}
-use Rattle.awk_pieces.proofs.Alike.{Outer, Names, Sorts, Values, state_on, AgreeOn, Covers, Alike, then_alike}
-use Rattle.awk_pieces.proofs.ReadsAlike.{left_true, right_true, unmoved, ret_alike, spend_alike, name_alike, reads_alike}
+use Rattle.awk_pieces.proofs.Alike.{Outer, Names, OwnsSeparators, Sorts, Values, state_on, AgreeOn, Covers, Alike, then_alike}
+use Rattle.awk_pieces.proofs.ReadsAlike.{left_true, right_true, unmoved, ret_alike, spend_alike, name_alike}
+use Rattle.awk_pieces.proofs.ExpressionsAlike.{expression_alike}
 use Rattle.awk_pieces.proofs.ValuesAndFaults.{IsValueOrFault}
 
 abbrev pub all_names : Names
@@ -31,6 +32,9 @@ all_names x = true
 -- before the records both sides have the same variables, and those by which records are found keep their values
 abbrev pub first_sorts : Sorts
 first_sorts = record { kept = λ x. not (leaves_records x); shared = all_names; shows = false }
+
+all_owned : OwnsSeparators all_names
+all_owned = record { fs = refl; rs = refl; ofs = refl; ors = refl }
 
 pub none_true : (b : Bool) → b ≡ true → not b ≡ true → ⊥
 none_true true e f = cc
@@ -97,11 +101,11 @@ module _ (base : State) where
 
   -- the actions of BEGIN
   module _ (f g : Functions) where
-    set_alike : (x : List ℕ) (e : Expr) → leaves_records x ≡ true → only_reads all_names e ≡ true → Begins (eval f (Assign assignment.Plain (Name x) e)) (eval g (Assign assignment.Plain (Name x) e))
+    set_alike : (x : List ℕ) (e : Expr) → leaves_records x ≡ true → keeps_to_record all_names e ≡ true → Begins (eval f (Assign assignment.Plain (Name x) e)) (eval g (Assign assignment.Plain (Name x) e))
     unfolding eval lift ◌>>=◌ go_on
-    set_alike x e leaves is = record { covers = λ o p c v w k d agrees. (then_alike _ _ (reads_alike first_sorts all_names base f g e is) (λ a. assign_by_alike x a leaves)).covers o p c v w k d agrees }
+    set_alike x e leaves is = record { covers = λ o p c v w k d agrees. (then_alike _ _ (expression_alike first_sorts all_names base all_owned f g e is) (λ a. assign_by_alike x a leaves)).covers o p c v w k d agrees }
 
-    place_alike : (place e : Expr) → (may_be_set place && only_reads all_names e) ≡ true → Begins (eval f (Assign assignment.Plain place e)) (eval g (Assign assignment.Plain place e))
+    place_alike : (place e : Expr) → (may_be_set place && keeps_to_record all_names e) ≡ true → Begins (eval f (Assign assignment.Plain place e)) (eval g (Assign assignment.Plain place e))
     place_alike (Name x) e is = set_alike x e (left_true (leaves_records x) _ is) (right_true (leaves_records x) _ is)
     place_alike (Number n) e is = absurd (cc)
     place_alike (String bytes) e is = absurd (cc)
@@ -123,7 +127,7 @@ module _ (base : State) where
     place_alike (Conditional c a b) e is = absurd (cc)
     place_alike (Assign c p a) e is = absurd (cc)
 
-    operator_alike : (operator : AssignmentOperator) (place e : Expr) → (is_plain operator && (may_be_set place && only_reads all_names e)) ≡ true → Begins (eval f (Assign operator place e)) (eval g (Assign operator place e))
+    operator_alike : (operator : AssignmentOperator) (place e : Expr) → (is_plain operator && (may_be_set place && keeps_to_record all_names e)) ≡ true → Begins (eval f (Assign operator place e)) (eval g (Assign operator place e))
     operator_alike assignment.Plain place e is = place_alike place e is
     operator_alike assignment.Add place e is = absurd (cc)
     operator_alike assignment.Subtract place e is = absurd (cc)

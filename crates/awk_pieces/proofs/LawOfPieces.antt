@@ -150,7 +150,7 @@ module _ (items : List Item) (pieceable : IsPieceable items) (start : StartValue
   finish limit z = go_on (unless_exit z.result) (outside_calls z.state) z.effects (λ _. end_items (functions limit) items)
 
   rules_alike : (f g : ℕ) → Alike rule_sorts rule_sorts.shared rule_sorts.shared (with_opening base) (action f) (action g)
-  rules_alike f g = until_alike rule_sorts knows (λ x e. e) (record { ofs = refl; ors = refl }) refl (with_opening base) (functions f) (functions g) (items_alike rule_sorts knows (λ x e. e) (record { ofs = refl; ors = refl }) refl (with_opening base) (functions f) (functions g) 0 items pieceable)
+  rules_alike f g = until_alike rule_sorts knows (λ x e. e) (record { fs = refl; rs = refl; ofs = refl; ors = refl }) refl (with_opening base) (functions f) (functions g) (items_alike rule_sorts knows (λ x e. e) (record { fs = refl; rs = refl; ofs = refl; ors = refl }) refl (with_opening base) (functions f) (functions g) 0 items pieceable)
 
   -- a run before its records
   record Prepared (x : Oracle) (limit steps : ℕ) : Type 0 where

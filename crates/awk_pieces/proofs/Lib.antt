@@ -1,8 +1,11 @@
 pub mod Alike
 pub mod BeginsAlike
+pub mod CallsAlike
+pub mod ExpressionsAlike
 pub mod FirstRecord
 pub mod LawOfPieces
 pub mod LinesJoined
+pub mod PlacesAlike
 pub mod ReadsAlike
 pub mod RecordsFound
 pub mod RecordsPassed

@@ -1,27 +1,25 @@
--- Expressions that only read, and what is made of them, do alike.
-use Rattle.std.proofs.Common.{◌≡◌, ℕ, zero, suc, ◌+◌, Bool, true, false, ◌&&◌, List, [], ◌∷◌, ◌++◌, Option, Some, None, Result, Ok, Err, pos, ℤ, refl, le_refl, arith, cond, codes, bytes_eq, map, length}
+-- What only reads, and what is made of it, does alike.
+use Rattle.std.proofs.Common.{◌≡◌, ℕ, zero, suc, ◌+◌, Bool, true, false, ◌&&◌, List, [], ◌∷◌, Result, Ok, Err, pos, ℤ, refl, le_refl, arith, cond, codes, bytes_eq, length}
 use Rattle.awk_value.specs.declared.value.Value.{Value}
 use Rattle.awk_value.specs.declared.value.Value.TheVariants as value
 use Rattle.awk_value.specs.Values.{truth_of, num_of}
 use Rattle.awk_record.specs.definitions.Record.{RecordPair, field_of}
-use Rattle.awk_lex.specs.declared.token.BuiltIn.{BuiltIn as BuiltInName}
 use Rattle.awk_lex.specs.declared.token.BuiltIn.TheVariants as built_in
 use Rattle.awk_lex.specs.declared.token.Operator.TheVariants as o
 use Rattle.awk_grammar.specs.declared.tree.BinaryOperator.{BinaryOperator}
 use Rattle.awk_grammar.specs.declared.tree.BinaryOperator.TheVariants.{Concatenate, Infix}
-use Rattle.awk_grammar.specs.Tree.{Expr, Number, String, Ere, Name, Element, Field, Group, Call, BuiltIn, Length, PreIncrement, PostIncrement, Getline, PipedGetline, Unary, Binary, Membership, ListMembership, Conditional, Assign, Exprs, Nil, Cons}
+use Rattle.awk_grammar.specs.Tree.{Expr, Number, String, Ere, Name, Element, Field, Group, Call, BuiltIn, Length, PreIncrement, PostIncrement, Getline, PipedGetline, Unary, Binary, Membership, ListMembership, Conditional, Assign}
 use Rattle.awk_semantics.specs.declared.halt.Halt.{Halt}
 use Rattle.awk_semantics.specs.declared.halt.Halt.TheVariants as halt
 use Rattle.awk_kinds.specs.Names.{has_name}
 use Rattle.awk_semantics.specs.definitions.State.{Effect, State, Run, lift, ret, gives}
-use Rattle.awk_semantics.specs.definitions.Operators.{truth_value, changed, applied, takes_pattern}
+use Rattle.awk_semantics.specs.definitions.Operators.{truth_value, applied}
 use Rattle.awk_semantics.specs.definitions.Faults.{of_values, of_record}
 use Rattle.awk_semantics.specs.definitions.Primitives.{spend, spend_of, number_of, read_field, record_text, read_name, is_array, number_in, array_in, array_length, array_length_at}
-use Rattle.awk_semantics.specs.definitions.BuiltIns.{Role, AsValue, AsPattern, AsArray, AsPlace, AsMeasured, Argument, OfValue, OfEre, OfArray, OfPlace, value_of, roles_of, bare_name, array_or_value, array_named_or, applied_all, record_length, count_elements, apply_built_in}
-use Rattle.awk_semantics.specs.definitions.Semantics.{Functions, right_operand, tested, choose, combined, eval, take_arguments}
-use Rattle.awk_pieces.specs.definitions.Pieceable.{is_of_values, only_reads, all_only_read}
-use Rattle.awk_pieces.proofs.Alike.{Outer, Names, Sorts, Values, state_on, AgreeOn, AreShown, shown_none, Same, Covers, Alike, then_alike}
-use Rattle.awk_pieces.proofs.ValuesAndFaults.{IsValueOrFault, of_values_faults, of_record_faults, changed_faults, applied_faults, applied_all_faults}
+use Rattle.awk_semantics.specs.definitions.BuiltIns.{applied_all, record_length}
+use Rattle.awk_semantics.specs.definitions.Semantics.{right_operand, tested, choose, combined}
+use Rattle.awk_pieces.proofs.Alike.{Outer, Names, Sorts, Values, state_on, AgreeOn, AreShown, shown_none, Same, Covers, Alike, AlikeWith, then_alike}
+use Rattle.awk_pieces.proofs.ValuesAndFaults.{IsValueOrFault, of_values_faults, of_record_faults, applied_faults, applied_all_faults}
 
 pub left_true : (a b : Bool) → (a && b) ≡ true → a ≡ true
 left_true true b e = refl
@@ -32,7 +30,7 @@ right_true true b e = e
 right_true false b e = absurd (cc)
 
 module _ (sorts : Sorts) (known : Names) (base : State) where
-  -- what reads names that are known, and changes nothing
+  -- what reads names that are known, and leaves them alike
   abbrev pub Reads : {A : Type 0} → Run A → Run A → Type 0
   Reads m n = Alike sorts known known base m n
 
@@ -49,6 +47,10 @@ module _ (sorts : Sorts) (known : Names) (base : State) where
 
   pub ret_alike : {A : Type 0} (a : A) → Reads (ret a) (ret a)
   ret_alike a = lift_alike (Ok a) tt
+
+  pub ret_with : {A : Type 0} {P : A → Type 0} (a : A) → P a → AlikeWith P sorts known known base (ret a) (ret a)
+  unfolding lift
+  ret_with a p = record { alike = ret_alike a; holds = λ s. p }
 
   fewer : (o p : Outer) (c : RecordPair) (v w : Values) (k d : ℕ) → AgreeOn known v w → Same {A = Unit {0}} sorts known base o p v w (suc k) d (gives (tt {0}) (state_on base o c v k)) (gives (tt {0}) (state_on base p c w (k + d)))
   fewer o p c v w k d agrees = record { pair = c; left = k; here = v; there = w; agrees = agrees; keeps = λ x e. refl; keeps_there = λ x e. refl; falls = omega arith; is_here = refl; is_there = refl; plain = shown_none sorts.shows }
@@ -76,21 +78,13 @@ module _ (sorts : Sorts) (known : Names) (base : State) where
   pub number_alike : (v : Value) → Reads (number_of v) (number_of v)
   number_alike v = lift_alike (of_values (num_of v)) (of_values_faults (num_of v))
 
-  is_array_alike : (x : List ℕ) → Reads (is_array x) (is_array x)
+  pub is_array_alike : (x : List ℕ) → Reads (is_array x) (is_array x)
   unfolding is_array
   is_array_alike x = record { covers = λ o p c v w k d agrees. unmoved o p c v w k d [] (Ok (has_name base.array_names x)) tt (shown_none sorts.shows) agrees }
 
-  array_length_alike : (x : List ℕ) → Reads (array_length x) (array_length x)
+  pub array_length_alike : (x : List ℕ) → Reads (array_length x) (array_length x)
   unfolding array_length array_length_at
   array_length_alike x = record { covers = λ o p c v w k d agrees. unmoved o p c v w k d [] (Ok (length (array_in base (number_in base.array_names x)))) tt (shown_none sorts.shows) agrees }
-
-  array_or_value_alike : (b : Bool) (x : List ℕ) {m n : Run Value} → Reads m n → Reads (array_or_value b x m) (array_or_value b x n)
-  array_or_value_alike true x h = ret_alike _
-  array_or_value_alike false x h = then_alike _ _ h (λ v. ret_alike _)
-
-  array_named_or_alike : (name : Option (List ℕ)) {m n : Run Value} → Reads m n → Reads (array_named_or name m) (array_named_or name n)
-  array_named_or_alike None h = then_alike _ _ h (λ v. ret_alike _)
-  array_named_or_alike (Some x) h = then_alike _ _ (is_array_alike x) (λ b. array_or_value_alike b x h)
 
   pub right_alike : (takes : Bool) (e : Expr) {m n : Run Value} → Reads m n → Reads (right_operand takes e m) (right_operand takes e n)
   right_alike true (Ere text) h = ret_alike _
@@ -142,96 +136,6 @@ module _ (sorts : Sorts) (known : Names) (base : State) where
   combined_alike (Infix o.Matches) h k = then_alike _ _ h (λ x. then_alike _ _ k (λ y. lift_alike (applied o.Matches x y) (applied_faults o.Matches x y)))
   combined_alike (Infix o.NotMatches) h k = then_alike _ _ h (λ x. then_alike _ _ k (λ y. lift_alike (applied o.NotMatches x y) (applied_faults o.NotMatches x y)))
 
-  record_length_alike : Reads record_length record_length
+  pub record_length_alike : Reads record_length record_length
   unfolding record_length
   record_length_alike = then_alike _ _ text_alike (λ v. lift_alike (applied_all built_in.Length (v ∷ [])) (applied_all_faults built_in.Length (v ∷ [])))
-
-  count_alike : (x : List ℕ) → Reads (count_elements x) (count_elements x)
-  unfolding count_elements
-  count_alike x = then_alike _ _ (array_length_alike x) (λ n. ret_alike _)
-
-  -- what a built-in function of values makes of its arguments
-  applied_alike : (f : BuiltInName) (arguments : List Argument) → Reads (lift (applied_all f (map value_of arguments))) (lift (applied_all f (map value_of arguments)))
-  applied_alike f arguments = lift_alike (applied_all f (map value_of arguments)) (applied_all_faults f (map value_of arguments))
-
-  pub built_in_alike : (f : BuiltInName) (arguments : List Argument) → is_of_values f ≡ true → Reads (apply_built_in f arguments) (apply_built_in f arguments)
-  unfolding apply_built_in
-  built_in_alike built_in.Length [] is = record_length_alike
-  built_in_alike built_in.Length (OfArray x ∷ arguments) is = count_alike x
-  built_in_alike built_in.Length (OfValue v ∷ arguments) is = applied_alike built_in.Length (OfValue v ∷ arguments)
-  built_in_alike built_in.Length (OfEre text ∷ arguments) is = applied_alike built_in.Length (OfEre text ∷ arguments)
-  built_in_alike built_in.Length (OfPlace p old ∷ arguments) is = applied_alike built_in.Length (OfPlace p old ∷ arguments)
-  built_in_alike built_in.Substr arguments is = applied_alike built_in.Substr arguments
-  built_in_alike built_in.Index arguments is = applied_alike built_in.Index arguments
-  built_in_alike built_in.Sprintf arguments is = applied_alike built_in.Sprintf arguments
-  built_in_alike built_in.ToLower arguments is = applied_alike built_in.ToLower arguments
-  built_in_alike built_in.ToUpper arguments is = applied_alike built_in.ToUpper arguments
-  built_in_alike built_in.Int arguments is = applied_alike built_in.Int arguments
-  built_in_alike built_in.Split arguments is = absurd (cc)
-  built_in_alike built_in.Sub arguments is = absurd (cc)
-  built_in_alike built_in.Gsub arguments is = absurd (cc)
-  built_in_alike built_in.Match arguments is = absurd (cc)
-  built_in_alike built_in.System arguments is = absurd (cc)
-  built_in_alike built_in.Close arguments is = absurd (cc)
-  built_in_alike built_in.Fflush arguments is = absurd (cc)
-
-  -- a function of values takes values alone, but for `length`
-  abbrev TakesValues : List Role → Type 0
-  TakesValues [] = Unit {0}
-  TakesValues (AsMeasured ∷ roles) = TakesValues roles
-  TakesValues (role ∷ roles) = ⊥
-
-  takes_values : (f : BuiltInName) → is_of_values f ≡ true → TakesValues (roles_of f)
-  takes_values built_in.Length is = tt
-  takes_values built_in.Substr is = tt
-  takes_values built_in.Index is = tt
-  takes_values built_in.Sprintf is = tt
-  takes_values built_in.ToLower is = tt
-  takes_values built_in.ToUpper is = tt
-  takes_values built_in.Int is = tt
-  takes_values built_in.Split is = absurd (cc)
-  takes_values built_in.Sub is = absurd (cc)
-  takes_values built_in.Gsub is = absurd (cc)
-  takes_values built_in.Match is = absurd (cc)
-  takes_values built_in.System is = absurd (cc)
-  takes_values built_in.Close is = absurd (cc)
-  takes_values built_in.Fflush is = absurd (cc)
-
-  module _ (f g : Functions) where
-    mutual
-      unfolding eval
-
-      pub reads_alike : (e : Expr) → only_reads known e ≡ true → Reads (eval f e) (eval g e)
-      reads_alike (Number n) is = ret_alike _
-      reads_alike (String bytes) is = ret_alike _
-      reads_alike (Ere text) is = then_alike _ _ text_alike (λ v. lift_alike (applied o.Matches v (value.Text text)) (applied_faults o.Matches v (value.Text text)))
-      reads_alike (Name x) is = name_alike x is
-      reads_alike (Field e) is = then_alike _ _ (reads_alike e is) (λ v. then_alike _ _ (number_alike v) (λ n. field_alike n))
-      reads_alike (Group e) is = reads_alike e is
-      reads_alike (BuiltIn c es) is = then_alike _ _ (arguments_alike es (roles_of c) [] (takes_values c (left_true (is_of_values c) _ is)) (right_true (is_of_values c) _ is)) (λ arguments. built_in_alike c arguments (left_true (is_of_values c) _ is))
-      reads_alike Length is = record_length_alike
-      reads_alike (Unary c e) is = then_alike _ _ (reads_alike e is) (λ v. lift_alike (changed c v) (changed_faults c v))
-      reads_alike (Binary c a b) is = combined_alike c (reads_alike a (left_true (only_reads known a) _ is)) (right_alike (takes_pattern c) b (reads_alike b (right_true (only_reads known a) _ is)))
-      reads_alike (Conditional c a b) is =
-          let both = right_true (only_reads known c) _ is in
-          let here = reads_alike a (left_true (only_reads known a) _ both) in
-          let other = reads_alike b (right_true (only_reads known a) _ both) in
-          then_alike _ _ (tested_alike (reads_alike c (left_true (only_reads known c) _ is))) (λ x. choose_alike x here other)
-      reads_alike (Element x es) is = absurd (cc)
-      reads_alike (Call c es) is = absurd (cc)
-      reads_alike (PreIncrement c p) is = absurd (cc)
-      reads_alike (PostIncrement c p) is = absurd (cc)
-      reads_alike (Getline p file) is = absurd (cc)
-      reads_alike (PipedGetline c p) is = absurd (cc)
-      reads_alike (Membership a x) is = absurd (cc)
-      reads_alike (ListMembership es x) is = absurd (cc)
-      reads_alike (Assign c p a) is = absurd (cc)
-
-      pub arguments_alike : (es : Exprs) (roles : List Role) (front : List Argument) → TakesValues roles → all_only_read known es ≡ true → Reads (take_arguments f roles front es) (take_arguments g roles front es)
-      arguments_alike Nil roles front takes is = ret_alike front
-      arguments_alike (Cons e es) [] front takes is = then_alike _ _ (then_alike _ _ (reads_alike e (left_true (only_reads known e) _ is)) (λ v. ret_alike _)) (λ a. arguments_alike es [] (front ++ a ∷ []) tt (right_true (only_reads known e) _ is))
-      arguments_alike (Cons e es) (AsMeasured ∷ roles) front takes is = then_alike _ _ (array_named_or_alike (bare_name e) (reads_alike e (left_true (only_reads known e) _ is))) (λ a. arguments_alike es roles (front ++ a ∷ []) takes (right_true (only_reads known e) _ is))
-      arguments_alike (Cons e es) (AsValue ∷ roles) front takes is = absurd takes
-      arguments_alike (Cons e es) (AsPattern ∷ roles) front takes is = absurd takes
-      arguments_alike (Cons e es) (AsArray ∷ roles) front takes is = absurd takes
-      arguments_alike (Cons e es) (AsPlace ∷ roles) front takes is = absurd takes

@@ -14,15 +14,11 @@ use Rattle.awk_semantics.specs.definitions.Operators.{line_of}
 use Rattle.awk_semantics.specs.definitions.Primitives.{print_bytes, print_line, format_values, outside_calls}
 use Rattle.awk_semantics.specs.definitions.Semantics.{Functions, eval, eval_all, printed_values, target_of, print_by, print, begin_test, exec_simple, pass_on, exec, exec_all}
 use Rattle.awk_semantics.specs.definitions.Items.{run_action, selects, print_record, try_item, try_items, unless_next, until_next}
-use Rattle.awk_pieces.specs.definitions.Pieceable.{only_reads, all_only_read, list_only_reads, is_standard, is_simple_for_itself, is_for_itself, are_for_themselves, pattern_only_reads, is_rule_for_itself, are_rules_for_themselves}
-use Rattle.awk_pieces.proofs.Alike.{Outer, Names, Sorts, Values, state_on, ArePlain, AreShown, shown_none, Same, Covers, Alike, then_alike}
-use Rattle.awk_pieces.proofs.ReadsAlike.{left_true, right_true, unmoved, lift_alike, ret_alike, spend_alike, text_alike, tested_alike, choose_alike, reads_alike}
+use Rattle.awk_pieces.specs.definitions.Pieceable.{keeps_to_record, all_keep_to_record, list_keeps_to_record, is_standard, is_simple_for_itself, is_for_itself, are_for_themselves, pattern_keeps_to_record, is_rule_for_itself, are_rules_for_themselves}
+use Rattle.awk_pieces.proofs.Alike.{Outer, Names, OwnsSeparators, Sorts, Values, state_on, ArePlain, AreShown, shown_none, Same, Covers, Alike, then_alike}
+use Rattle.awk_pieces.proofs.ReadsAlike.{left_true, right_true, unmoved, lift_alike, ret_alike, spend_alike, text_alike, tested_alike, choose_alike}
+use Rattle.awk_pieces.proofs.ExpressionsAlike.{expression_alike}
 use Rattle.awk_pieces.proofs.ValuesAndFaults.{format_faults}
-
--- the variables that a print reads are known
-pub record OwnsPrinting (known : Names) : Type 0 where
-  pub ofs : known (codes "OFS") ≡ true
-  pub ors : known (codes "ORS") ≡ true
 
 abbrev pub IsWithin : Names → Names → Type 0
 IsWithin kept known = (x : List ℕ) → kept x ≡ true → known x ≡ true
@@ -44,22 +40,22 @@ ended_covers sorts known base o p v w k d (Err halt.OutOfSteps) t effects y with
 ended_covers sorts known base o p v w k d (Err halt.Next) t effects y within c = ended_same _ y c
 ended_covers sorts known base o p v w k d (Err halt.Exit) t effects y within c = absurd c
 
-module _ (sorts : Sorts) (known : Names) (within : IsWithin sorts.shared known) (owns : OwnsPrinting known) (prints : sorts.shows ≡ true) (base : State) (f g : Functions) where
+module _ (sorts : Sorts) (known : Names) (within : IsWithin sorts.shared known) (owns : OwnsSeparators known) (prints : sorts.shows ≡ true) (base : State) (f g : Functions) where
   abbrev pub Does : {A : Type 0} → Run A → Run A → Type 0
   Does m n = Alike sorts known known base m n
 
-  abbrev reads : (e : Expr) → only_reads known e ≡ true → Does (eval f e) (eval g e)
-  reads e is = reads_alike sorts known base f g e is
+  abbrev reads : (e : Expr) → keeps_to_record known e ≡ true → Does (eval f e) (eval g e)
+  reads e is = expression_alike sorts known base owns f g e is
 
   shown : (effects : List Effect) → ArePlain effects → AreShown sorts.shows effects
   shown effects plain = subst (λ (b : Bool). AreShown b effects) (sym prints) plain
 
-  values_alike : (front : List Value) (es : Exprs) → all_only_read known es ≡ true → Does (eval_all f front es) (eval_all g front es)
+  values_alike : (front : List Value) (es : Exprs) → all_keep_to_record known es ≡ true → Does (eval_all f front es) (eval_all g front es)
   unfolding eval_all
   values_alike front Nil is = ret_alike sorts known base front
-  values_alike front (Cons e es) is = then_alike _ _ (reads e (left_true (only_reads known e) _ is)) (λ v. values_alike (front ++ v ∷ []) es (right_true (only_reads known e) _ is))
+  values_alike front (Cons e es) is = then_alike _ _ (reads e (left_true (keeps_to_record known e) _ is)) (λ v. values_alike (front ++ v ∷ []) es (right_true (keeps_to_record known e) _ is))
 
-  printed_alike : (list : PrintList) → list_only_reads known list ≡ true → Does (printed_values f list) (printed_values g list)
+  printed_alike : (list : PrintList) → list_keeps_to_record known list ≡ true → Does (printed_values f list) (printed_values g list)
   unfolding printed_values
   printed_alike (Bare es) is = values_alike [] es is
   printed_alike (Parenthesized es) is = values_alike [] es is
@@ -87,7 +83,7 @@ module _ (sorts : Sorts) (known : Names) (within : IsWithin sorts.shared known) 
   target_alike Standard m n is h = from_result 0 m n h
   target_alike (Redirected way target) m n is h = absurd (cc)
 
-  print_alike : (form : PrintForm) (list : PrintList) (output : Output) → list_only_reads known list ≡ true → is_standard known output ≡ true → Does (print f form list output) (print g form list output)
+  print_alike : (form : PrintForm) (list : PrintList) (output : Output) → list_keeps_to_record known list ≡ true → is_standard known output ≡ true → Does (print f form list output) (print g form list output)
   unfolding print
   print_alike form list output is standard = then_alike _ _ (spend_alike sorts known base) (λ _. then_alike _ _ (printed_alike list is) (λ vs. target_alike output (λ n. print_by f form n vs) (λ n. print_by g form n vs) standard (print_by_alike form vs)))
 
@@ -98,7 +94,7 @@ module _ (sorts : Sorts) (known : Names) (within : IsWithin sorts.shared known) 
   simple_alike : (simple : SimpleStatement) → is_simple_for_itself known simple ≡ true → Does (exec_simple f simple) (exec_simple g simple)
   unfolding exec_simple
   simple_alike (Expression e) is = then_alike _ _ (spend_alike sorts known base) (λ _. then_alike _ _ (reads e is) (λ v. ret_alike sorts known base flow.Normal))
-  simple_alike (Print form list output) is = then_alike _ _ (print_alike form list output (left_true (list_only_reads known list) _ is) (right_true (list_only_reads known list) _ is)) (λ _. ret_alike sorts known base flow.Normal)
+  simple_alike (Print form list output) is = then_alike _ _ (print_alike form list output (left_true (list_keeps_to_record known list) _ is) (right_true (list_keeps_to_record known list) _ is)) (λ _. ret_alike sorts known base flow.Normal)
   simple_alike Next is = then_alike _ _ (spend_alike sorts known base) (λ _. next_alike)
   simple_alike (Delete x es) is = absurd (cc)
   simple_alike (DeleteAll x) is = absurd (cc)
@@ -108,7 +104,7 @@ module _ (sorts : Sorts) (known : Names) (within : IsWithin sorts.shared known) 
   simple_alike (Exit e) is = absurd (cc)
   simple_alike (Return e) is = absurd (cc)
 
-  test_alike : (e : Expr) → only_reads known e ≡ true → Does (begin_test f e) (begin_test g e)
+  test_alike : (e : Expr) → keeps_to_record known e ≡ true → Does (begin_test f e) (begin_test g e)
   unfolding begin_test
   test_alike e is = then_alike _ _ (spend_alike sorts known base) (λ _. tested_alike sorts known base (reads e is))
 
@@ -126,13 +122,13 @@ module _ (sorts : Sorts) (known : Names) (within : IsWithin sorts.shared known) 
     exec_alike (Simple simple) is = simple_alike simple is
     exec_alike (Block all) is = exec_all_alike all is
     exec_alike (If c s) is =
-        let body = exec_alike s (right_true (only_reads known c) _ is) in
-        then_alike _ _ (test_alike c (left_true (only_reads known c) _ is)) (λ x. choose_alike sorts known base x body (ret_alike sorts known base flow.Normal))
+        let body = exec_alike s (right_true (keeps_to_record known c) _ is) in
+        then_alike _ _ (test_alike c (left_true (keeps_to_record known c) _ is)) (λ x. choose_alike sorts known base x body (ret_alike sorts known base flow.Normal))
     exec_alike (IfElse c s other) is =
-        let both = right_true (only_reads known c) _ is in
+        let both = right_true (keeps_to_record known c) _ is in
         let body = exec_alike s (left_true (is_for_itself known s) _ both) in
         let rest = exec_alike other (right_true (is_for_itself known s) _ both) in
-        then_alike _ _ (test_alike c (left_true (only_reads known c) _ is)) (λ x. choose_alike sorts known base x body rest)
+        then_alike _ _ (test_alike c (left_true (keeps_to_record known c) _ is)) (λ x. choose_alike sorts known base x body rest)
     exec_alike (While c s) is = absurd (cc)
     exec_alike (Do s c) is = absurd (cc)
     exec_alike (ForIn x array s) is = absurd (cc)
@@ -146,7 +142,7 @@ module _ (sorts : Sorts) (known : Names) (within : IsWithin sorts.shared known) 
   unfolding run_action
   action_alike all is = then_alike _ _ (exec_all_alike all is) (λ c. ret_alike sorts known base tt)
 
-  selects_alike : (n : ℕ) (p : Pattern) → pattern_only_reads known p ≡ true → Does (selects f n p) (selects g n p)
+  selects_alike : (n : ℕ) (p : Pattern) → pattern_keeps_to_record known p ≡ true → Does (selects f n p) (selects g n p)
   unfolding selects
   selects_alike n (Single e) is = tested_alike sorts known base (reads e is)
   selects_alike n (Range from to) is = absurd (cc)
@@ -158,7 +154,7 @@ module _ (sorts : Sorts) (known : Names) (within : IsWithin sorts.shared known) 
   item_alike : (n : ℕ) (x : Item) → is_rule_for_itself known x ≡ true → Does (try_item f n x) (try_item g n x)
   unfolding try_item
   item_alike n (Action block) is = action_alike block is
-  item_alike n (PatternAction p block) is = then_alike _ _ (selects_alike n p (left_true (pattern_only_reads known p) _ is)) (λ x. choose_alike sorts known base x (action_alike block (right_true (pattern_only_reads known p) _ is)) (ret_alike sorts known base tt))
+  item_alike n (PatternAction p block) is = then_alike _ _ (selects_alike n p (left_true (pattern_keeps_to_record known p) _ is)) (λ x. choose_alike sorts known base x (action_alike block (right_true (pattern_keeps_to_record known p) _ is)) (ret_alike sorts known base tt))
   item_alike n (PatternOnly p) is = then_alike _ _ (selects_alike n p is) (λ x. choose_alike sorts known base x print_record_alike (ret_alike sorts known base tt))
   item_alike n (Begin block) is = ret_alike sorts known base tt
   item_alike n (End block) is = absurd (cc)

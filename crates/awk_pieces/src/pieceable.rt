@@ -2,7 +2,7 @@
 
 ghost use Rattle.std.specs.Prelude.{◌≡◌, ◌↔◌, true};
 ghost use Rattle.awk_grammar.specs.View as g;
-ghost use Rattle.awk_pieces.specs.definitions.Pieceable.{is_counter, is_of_values, only_reads, all_only_read, list_only_reads, is_standard, is_simple_for_itself, is_for_itself, are_for_themselves, leaves_records, is_plain, may_be_set, is_setting, is_simple_setting, only_sets, all_only_set, pattern_only_reads, is_rule_for_itself, are_rules_for_themselves, knows, IsPieceable};
+ghost use Rattle.awk_pieces.specs.definitions.Pieceable.{is_counter, is_of_record, third_is_of_record, may_be_called, keeps_to_record, all_keep_to_record, list_keeps_to_record, is_standard, is_simple_for_itself, is_for_itself, are_for_themselves, leaves_records, is_plain, may_be_set, is_setting, is_simple_setting, only_sets, all_only_set, pattern_keeps_to_record, is_rule_for_itself, are_rules_for_themselves, knows, IsPieceable};
 ghost use Rattle.awk_pieces.specs.support.Readable.{names_of};
 
 use awk_grammar::tree::{Expr, Item, Output, Pattern, PrintList, SimpleStatement, Statement, Tree};
@@ -42,9 +42,30 @@ fn is_readable(readable: Readable, name: &[u8]) -> bool
     }
 }
 
-/// Whether the built-in function does no more than make a value of values.
-fn is_of_values(function: BuiltIn) -> bool
-    ensures { result ≡ is_of_values function }
+/// Whether the expression is a place in the record: a field, or NF.
+fn is_of_record(place: &Expr) -> bool
+    ensures { result ≡ is_of_record (g.expr_of place.now) }
+{
+    match place {
+        Expr::Field(_) => true,
+        Expr::Name(name) => name.as_slice() == b"NF".as_slice(),
+        _ => false,
+    }
+}
+
+/// Whether what `sub` and `gsub` exchange in is in the record, where it isn't left out.
+fn third_is_of_record(arguments: &[Expr]) -> bool
+    ensures { result ≡ third_is_of_record (g.exprs_of arguments.now) }
+{
+    match arguments.get(2) {
+        Some(place) => is_of_record(place),
+        None => true,
+    }
+}
+
+/// Whether the built-in function does no more than make a value of values, or exchange in the record.
+fn may_be_called(function: BuiltIn, arguments: &[Expr]) -> bool
+    ensures { result ≡ may_be_called function (g.exprs_of arguments.now) }
 {
     match function {
         BuiltIn::Length
@@ -54,55 +75,63 @@ fn is_of_values(function: BuiltIn) -> bool
         | BuiltIn::ToLower
         | BuiltIn::ToUpper
         | BuiltIn::Int => true,
+        BuiltIn::Sub | BuiltIn::Gsub => third_is_of_record(arguments),
         _ => false,
     }
 }
 
+/// Whether the expression reads no more than the record and such variables, and changes no more than
+/// the record.
 #[cycle(expressions)]
-fn only_reads(readable: Readable, e: &Expr) -> bool
-    ensures { result ≡ only_reads (names_of readable) (g.expr_of e.now) }
+fn keeps_to_record(readable: Readable, e: &Expr) -> bool
+    ensures { result ≡ keeps_to_record (names_of readable) (g.expr_of e.now) }
 {
     match e {
         Expr::Number(_) | Expr::String(_) | Expr::Ere(_) | Expr::Length => true,
         Expr::Name(name) => is_readable(readable, name.as_slice()),
-        Expr::Field(e) | Expr::Group(e) | Expr::Unary(_, e) => only_reads(readable, e),
-        Expr::Binary(_, a, b) => only_reads(readable, a) && only_reads(readable, b),
+        Expr::Field(e) | Expr::Group(e) | Expr::Unary(_, e) => keeps_to_record(readable, e),
+        Expr::Binary(_, a, b) => keeps_to_record(readable, a) && keeps_to_record(readable, b),
         Expr::Conditional(c, a, b) => {
-            only_reads(readable, c) && only_reads(readable, a) && only_reads(readable, b)
+            keeps_to_record(readable, c)
+                && keeps_to_record(readable, a)
+                && keeps_to_record(readable, b)
         }
         Expr::BuiltIn(function, arguments) => {
-            is_of_values(*function) && all_only_read(readable, arguments)
+            may_be_called(*function, arguments) && all_keep_to_record(readable, arguments)
+        }
+        Expr::PreIncrement(_, place) | Expr::PostIncrement(_, place) => {
+            is_of_record(place) && keeps_to_record(readable, place)
+        }
+        Expr::Assign(_, place, e) => {
+            is_of_record(place) && keeps_to_record(readable, place) && keeps_to_record(readable, e)
         }
         Expr::Element(_, _)
         | Expr::Call(_, _)
-        | Expr::PreIncrement(_, _)
-        | Expr::PostIncrement(_, _)
         | Expr::Getline(_, _)
         | Expr::PipedGetline(_, _)
         | Expr::Membership(_, _)
-        | Expr::ListMembership(_, _)
-        | Expr::Assign(_, _, _) => false,
+        | Expr::ListMembership(_, _) => false,
     }
 }
 
 #[cycle(expressions)]
-fn all_only_read(readable: Readable, list: &[Expr]) -> bool
-    ensures { result ≡ all_only_read (names_of readable) (g.exprs_of list.now) }
+fn all_keep_to_record(readable: Readable, list: &[Expr]) -> bool
+    ensures { result ≡ all_keep_to_record (names_of readable) (g.exprs_of list.now) }
 {
     for e in list {
-        if !only_reads(readable, e) {
+        if !keeps_to_record(readable, e) {
             return false;
         }
     }
     true
 }
 
-fn list_only_reads(list: &PrintList) -> bool
-    ensures { result ≡ list_only_reads knows (g.print_list_of list.now) }
+fn list_keeps_to_record(list: &PrintList) -> bool
+    ensures { result ≡ list_keeps_to_record knows (g.print_list_of list.now) }
 {
     match list {
         PrintList::Bare(list) | PrintList::Parenthesized(list) => {
-            all_only_read(Readable::Steady, list)
+            all_keep_to_record(Readable::Steady, list)
         }
     }
 }
@@ -117,8 +146,9 @@ fn is_simple_for_itself(simple: &SimpleStatement) -> bool
     ensures { result ≡ is_simple_for_itself knows (g.simple_of simple.now) }
 {
     match simple {
-        SimpleStatement::Expression(e) => only_reads(Readable::Steady, e),
-        SimpleStatement::Print(_, list, output) => list_only_reads(list) && is_standard(output),
+        SimpleStatement::Expression(e) => keeps_to_record(Readable::Steady, e),
+        SimpleStatement::Print(_, list, output) => list_keeps_to_record(list)
+            && is_standard(output),
         SimpleStatement::Next => true,
         _ => false,
     }
@@ -132,9 +162,9 @@ fn is_for_itself(s: &Statement) -> bool
         Statement::Empty => true,
         Statement::Simple(simple) => is_simple_for_itself(simple),
         Statement::Block(all) => are_for_themselves(all),
-        Statement::If(c, s) => only_reads(Readable::Steady, c) && is_for_itself(s),
+        Statement::If(c, s) => keeps_to_record(Readable::Steady, c) && is_for_itself(s),
         Statement::IfElse(c, s, other) => {
-            only_reads(Readable::Steady, c) && is_for_itself(s) && is_for_itself(other)
+            keeps_to_record(Readable::Steady, c) && is_for_itself(s) && is_for_itself(other)
         }
         Statement::While(_, _)
         | Statement::Do(_, _)
@@ -169,7 +199,7 @@ fn is_setting(e: &Expr) -> bool
 {
     match e {
         Expr::Assign(AssignmentOperator::Plain, place, e) => {
-            may_be_set(place) && only_reads(Readable::All, e)
+            may_be_set(place) && keeps_to_record(Readable::All, e)
         }
         _ => false,
     }
@@ -196,11 +226,11 @@ fn all_only_set(all: &[Statement]) -> bool
     true
 }
 
-fn pattern_only_reads(pattern: &Pattern) -> bool
-    ensures { result ≡ pattern_only_reads knows (g.pattern_of pattern.now) }
+fn pattern_keeps_to_record(pattern: &Pattern) -> bool
+    ensures { result ≡ pattern_keeps_to_record knows (g.pattern_of pattern.now) }
 {
     match pattern {
-        Pattern::Single(e) => only_reads(Readable::Steady, e),
+        Pattern::Single(e) => keeps_to_record(Readable::Steady, e),
         Pattern::Range(_, _) => false,
     }
 }
@@ -212,9 +242,9 @@ fn is_rule_for_itself(item: &Item) -> bool
         Item::Begin(block) => all_only_set(block),
         Item::Action(block) => are_for_themselves(block),
         Item::PatternAction(pattern, block) => {
-            pattern_only_reads(pattern) && are_for_themselves(block)
+            pattern_keeps_to_record(pattern) && are_for_themselves(block)
         }
-        Item::PatternOnly(pattern) => pattern_only_reads(pattern),
+        Item::PatternOnly(pattern) => pattern_keeps_to_record(pattern),
         Item::End(_) | Item::Function(_, _, _) => false,
     }
 }

@@ -4,61 +4,77 @@ use Rattle.awk_lex.specs.declared.token.BuiltIn.{BuiltIn as BuiltInName}
 use Rattle.awk_lex.specs.declared.token.BuiltIn.TheVariants as builtin
 use Rattle.awk_lex.specs.declared.token.AssignmentOperator.{AssignmentOperator}
 use Rattle.awk_lex.specs.declared.token.AssignmentOperator.TheVariants as assignment
-use Rattle.awk_grammar.specs.Tree.{Expr, Number, String, Ere, Name, Field, Group, BuiltIn, Length, Unary, Binary, Conditional, Assign, Exprs, Nil, Cons, PrintList, Bare, Parenthesized, Output, Standard, Redirected, SimpleStatement, Expression, Print, Next, Statement, Empty, Simple, Block, If, IfElse, Statements, NoMore, Then, Pattern, Single, Range, Item, Begin, Action, PatternAction, PatternOnly}
+use Rattle.awk_grammar.specs.Tree.{Expr, Number, String, Ere, Name, Field, Group, BuiltIn, Length, PreIncrement, PostIncrement, Unary, Binary, Conditional, Assign, Exprs, Nil, Cons, PrintList, Bare, Parenthesized, Output, Standard, Redirected, SimpleStatement, Expression, Print, Next, Statement, Empty, Simple, Block, If, IfElse, Statements, NoMore, Then, Pattern, Single, Range, Item, Begin, Action, PatternAction, PatternOnly}
 
 -- the variables that tell where in the input a record stands
 abbrev pub is_counter : List ℕ → Bool
 is_counter x = bytes_eq x (codes "NR") || (bytes_eq x (codes "FNR") || bytes_eq x (codes "FILENAME"))
 
--- the built-in functions that do no more than make a value of values
-abbrev pub is_of_values : BuiltInName → Bool
-is_of_values builtin.Length = true
-is_of_values builtin.Substr = true
-is_of_values builtin.Index = true
-is_of_values builtin.Sprintf = true
-is_of_values builtin.ToLower = true
-is_of_values builtin.ToUpper = true
-is_of_values builtin.Int = true
-is_of_values f = false
-
 -- an assignment before the records that changes neither how records are found nor their count
 abbrev pub leaves_records : List ℕ → Bool
 leaves_records x = not (is_counter x || (bytes_eq x (codes "RS") || (bytes_eq x (codes "ARGC") || bytes_eq x (codes "NF"))))
 
+-- a place in the record: a field, or NF
+abbrev pub is_of_record : (place : Expr) → Bool
+is_of_record (Field e) = true
+is_of_record (Name x) = bytes_eq x (codes "NF")
+is_of_record e = false
+
+-- what `sub` and `gsub` exchange in, where it isn't left out
+abbrev pub third_is_of_record : Exprs → Bool
+third_is_of_record (Cons a (Cons b (Cons place es))) = is_of_record place
+third_is_of_record es = true
+
+-- the built-in functions that do no more than make a value of values, or exchange in the record
+abbrev pub may_be_called : BuiltInName → Exprs → Bool
+may_be_called builtin.Length es = true
+may_be_called builtin.Substr es = true
+may_be_called builtin.Index es = true
+may_be_called builtin.Sprintf es = true
+may_be_called builtin.ToLower es = true
+may_be_called builtin.ToUpper es = true
+may_be_called builtin.Int es = true
+may_be_called builtin.Sub es = third_is_of_record es
+may_be_called builtin.Gsub es = third_is_of_record es
+may_be_called f es = false
+
 -- what is read and done where the variables of these names may be read
 module _ (known : List ℕ → Bool) where
-  -- an expression that reads no more than the record and such variables, and changes nothing
+  -- an expression that reads no more than the record and such variables, and changes no more than the record
   abbrev mutual
-    pub only_reads : Expr → Bool
-    only_reads (Number n) = true
-    only_reads (String bytes) = true
-    only_reads (Ere text) = true
-    only_reads Length = true
-    only_reads (Name x) = known x
-    only_reads (Field e) = only_reads e
-    only_reads (Group e) = only_reads e
-    only_reads (Unary o e) = only_reads e
-    only_reads (Binary o a b) = only_reads a && only_reads b
-    only_reads (Conditional c a b) = only_reads c && (only_reads a && only_reads b)
-    only_reads (BuiltIn f es) = is_of_values f && all_only_read es
-    only_reads e = false
+    pub keeps_to_record : Expr → Bool
+    keeps_to_record (Number n) = true
+    keeps_to_record (String bytes) = true
+    keeps_to_record (Ere text) = true
+    keeps_to_record Length = true
+    keeps_to_record (Name x) = known x
+    keeps_to_record (Field e) = keeps_to_record e
+    keeps_to_record (Group e) = keeps_to_record e
+    keeps_to_record (Unary o e) = keeps_to_record e
+    keeps_to_record (Binary o a b) = keeps_to_record a && keeps_to_record b
+    keeps_to_record (Conditional c a b) = keeps_to_record c && (keeps_to_record a && keeps_to_record b)
+    keeps_to_record (BuiltIn f es) = may_be_called f es && all_keep_to_record es
+    keeps_to_record (PreIncrement o place) = is_of_record place && keeps_to_record place
+    keeps_to_record (PostIncrement o place) = is_of_record place && keeps_to_record place
+    keeps_to_record (Assign o place e) = is_of_record place && (keeps_to_record place && keeps_to_record e)
+    keeps_to_record e = false
 
-    pub all_only_read : Exprs → Bool
-    all_only_read Nil = true
-    all_only_read (Cons e es) = only_reads e && all_only_read es
+    pub all_keep_to_record : Exprs → Bool
+    all_keep_to_record Nil = true
+    all_keep_to_record (Cons e es) = keeps_to_record e && all_keep_to_record es
 
   -- a statement of such expressions, which prints to standard output alone
-  abbrev pub list_only_reads : PrintList → Bool
-  list_only_reads (Bare es) = all_only_read es
-  list_only_reads (Parenthesized es) = all_only_read es
+  abbrev pub list_keeps_to_record : PrintList → Bool
+  list_keeps_to_record (Bare es) = all_keep_to_record es
+  list_keeps_to_record (Parenthesized es) = all_keep_to_record es
 
   abbrev pub is_standard : Output → Bool
   is_standard Standard = true
   is_standard (Redirected way target) = false
 
   abbrev pub is_simple_for_itself : SimpleStatement → Bool
-  is_simple_for_itself (Expression e) = only_reads e
-  is_simple_for_itself (Print form list output) = list_only_reads list && is_standard output
+  is_simple_for_itself (Expression e) = keeps_to_record e
+  is_simple_for_itself (Print form list output) = list_keeps_to_record list && is_standard output
   is_simple_for_itself Next = true
   is_simple_for_itself simple = false
 
@@ -67,8 +83,8 @@ module _ (known : List ℕ → Bool) where
     is_for_itself Empty = true
     is_for_itself (Simple simple) = is_simple_for_itself simple
     is_for_itself (Block all) = are_for_themselves all
-    is_for_itself (If c s) = only_reads c && is_for_itself s
-    is_for_itself (IfElse c s other) = only_reads c && (is_for_itself s && is_for_itself other)
+    is_for_itself (If c s) = keeps_to_record c && is_for_itself s
+    is_for_itself (IfElse c s other) = keeps_to_record c && (is_for_itself s && is_for_itself other)
     is_for_itself s = false
 
     pub are_for_themselves : Statements → Bool
@@ -85,7 +101,7 @@ may_be_set (Name x) = leaves_records x
 may_be_set e = false
 
 abbrev pub is_setting : Expr → Bool
-is_setting (Assign operator place e) = is_plain operator && (may_be_set place && only_reads (λ x. true) e)
+is_setting (Assign operator place e) = is_plain operator && (may_be_set place && keeps_to_record (λ x. true) e)
 is_setting e = false
 
 abbrev pub is_simple_setting : SimpleStatement → Bool
@@ -103,15 +119,15 @@ all_only_set (Then s all) = only_sets s && all_only_set all
 
 module _ (known : List ℕ → Bool) where
   -- a rule that treats each record for itself
-  abbrev pub pattern_only_reads : Pattern → Bool
-  pattern_only_reads (Single e) = only_reads known e
-  pattern_only_reads (Range from to) = false
+  abbrev pub pattern_keeps_to_record : Pattern → Bool
+  pattern_keeps_to_record (Single e) = keeps_to_record known e
+  pattern_keeps_to_record (Range from to) = false
 
   abbrev pub is_rule_for_itself : Item → Bool
   is_rule_for_itself (Begin block) = all_only_set block
   is_rule_for_itself (Action block) = are_for_themselves known block
-  is_rule_for_itself (PatternAction p block) = pattern_only_reads p && are_for_themselves known block
-  is_rule_for_itself (PatternOnly p) = pattern_only_reads p
+  is_rule_for_itself (PatternAction p block) = pattern_keeps_to_record p && are_for_themselves known block
+  is_rule_for_itself (PatternOnly p) = pattern_keeps_to_record p
   is_rule_for_itself x = false
 
   abbrev pub are_rules_for_themselves : List Item → Bool

@@ -1,13 +1,19 @@
-use Rattle.std.proofs.Common.{◌≡◌, true, sym, ◌∙◌, rules}
+use Rattle.std.proofs.Common.{◌≡◌, true, false, sym, ◌∙◌, rules}
 use Rattle.awk_grammar.specs.Tree as g
 use Rattle.awk_grammar.specs.View.{expr_of, exprs_of}
 use Rattle.awk_grammar.specs.declared.tree.Expr.TheViews.{the_lemmas}
 use Rattle.awk_kinds.proofs.Rows.{row_is_list}
-use Rattle.awk_pieces.specs.definitions.Pieceable.{is_of_values}
+use Rattle.awk_pieces.specs.definitions.Pieceable.{may_be_called}
 use Rattle.awk_pieces.proofs.pieceable.+expressions.Goals as goal
 
-pub only_reads-returns-then-is_of_values : goal.only_reads-returns-then-is_of_values
-only_reads-returns-then-is_of_values t c =
+pub keeps_to_record-returns-then-may_be_called : goal.keeps_to_record-returns-then-may_be_called
+keeps_to_record-returns-then-may_be_called t c =
     let is : expr_of c.args.e.now ≡ g.BuiltIn c.in-BuiltIn.function (exprs_of c.in-BuiltIn.arguments.items) = search (rules, the_lemmas, row_is_list) in
-    let held : is_of_values c.in-BuiltIn.function ≡ true = sym c.is_of_values.ensures ∙ c.if-is_of_values.true in
-    rw (is, held) (rw c.deref-then-is_of_values.ensures.value at c.all_only_read.ensures)
+    let may : may_be_called c.in-BuiltIn.function (exprs_of c.in-BuiltIn.arguments.items) ≡ true = sym (rw c.deref-in-BuiltIn.ensures.value at c.may_be_called.ensures) ∙ c.if-may_be_called.true in
+    rw (is, may) (rw c.deref-then-may_be_called.ensures.value at c.all_keep_to_record.ensures)
+
+pub keeps_to_record-returns-else-may_be_called : goal.keeps_to_record-returns-else-may_be_called
+keeps_to_record-returns-else-may_be_called t c =
+    let is : expr_of c.args.e.now ≡ g.BuiltIn c.in-BuiltIn.function (exprs_of c.in-BuiltIn.arguments.items) = search (rules, the_lemmas, row_is_list) in
+    let may : may_be_called c.in-BuiltIn.function (exprs_of c.in-BuiltIn.arguments.items) ≡ false = sym (rw c.deref-in-BuiltIn.ensures.value at c.may_be_called.ensures) ∙ c.if-may_be_called.false in
+    rw (is, may) c.if-may_be_called.false
