@@ -1,11 +1,16 @@
 -- Lemmas on reading the files of a program.
-use Rattle.std.proofs.Common.{◌≡◌, ◌<◌, ℕ, Bool, true, false, inl, inr, List, [], ◌∷◌, ◌++◌, length, refl, sym, ◌∙◌, ap, subst, append_assoc, append-nil}
-use Rattle.awk_streams.specs.Log.{Event, Read}
+use Rattle.std.proofs.Common.{◌≡◌, ◌⊎◌, ◌+◌, ◌<◌, ℕ, Bool, true, false, inl, inr, List, [], ◌∷◌, ◌++◌, length, get_or, take, drop, Vec, Global, refl, sym, ◌∙◌, ap, subst, append_assoc, append-nil}
+use Rattle.std.proofs.lemmas.List.{take-append-drop}
+use Rattle.awk_streams.specs.Log.{Event, Read, Ended}
 use Rattle.awk_streams.specs.Writes.{GoesOn}
 use Rattle.awk_streams.proofs.WritesLemmas.{with_events-push}
 use Rattle.awk_run.specs.Accepted.{longest_text}
-use Rattle.awk_command.specs.ProgramText.{ReadsBytes, ReadsInput, ReadsFile, ReadsFiles, with_newline}
-use Rattle.awk_command.specs.Parts.{ReadsChunk}
+use Rattle.awk_command.specs.declared.report.NotRun.{NotRun}
+use Rattle.awk_command.specs.declared.report.NotRun.TheVariants.{Usage, NotReadable, Memory, Refused}
+use Rattle.awk_command.specs.CommandLine.{texts}
+use Rattle.awk_command.specs.ProgramText.{with_newline, ReadsBytes, ReadsInput, ReadsSome, ReadsFile, ReadsFiles, LeavesFile, ReadsUntil}
+use Rattle.awk_command.specs.Parts.{ReadsChunk, LeavesChunk, LeavesInput}
+use Rattle.awk_command.proofs.CommandLineLemmas.{word_at}
 
 ReadsBytes-push : (id : ℕ) (bytes bs : List ℕ) (es : List Event) → ReadsBytes id bytes es → ReadsBytes id (bytes ++ bs) (es ++ Read id bs ∷ [])
 ReadsBytes-push id bytes bs [] none = (refl, ([], ap (λ b. b ++ bs) none ∙ sym (append-nil bs), refl))
@@ -42,3 +47,37 @@ read_last id old bytes new mid log' false e so_far (is, log) = record {
 
 pub read_enough : (id : ℕ) (old : List Event) (bytes : List ℕ) (log : List Event) → longest_text < length bytes → GoesOn (ReadsBytes id bytes) old log → ReadsInput id bytes old log
 read_enough id old bytes log long so_far = record { read = log; reads = so_far; ended = inr (long, refl) }
+
+-- where the reading stops
+
+pub leaves_input : (id : ℕ) (old : List Event) (bytes : List ℕ) (mid log' : List Event) (why : NotRun) → GoesOn (ReadsBytes id bytes) old mid → LeavesChunk why id mid log' → LeavesInput why id old log'
+leaves_input id old bytes mid log' NotReadable so_far broke = record { bytes = bytes; read = mid; reads = so_far; broke = broke }
+leaves_input id old bytes mid log' Memory so_far (inl same) = record { bytes = bytes; read = mid; reads = so_far; ended = inl same }
+leaves_input id old bytes mid log' Memory so_far (inr (bs, is)) =
+    record { bytes = bytes ++ bs; read = log'; reads = GoesOn-read id bytes bs old mid log' so_far is; ended = inl refl }
+leaves_input id old bytes mid log' Usage so_far h = absurd h
+leaves_input id old bytes mid log' (Refused refusal) so_far h = absurd h
+
+some_of_input : (id : ℕ) (bytes : List ℕ) (log log' : List Event) → ReadsInput id bytes log log' → ReadsSome id log log'
+some_of_input id bytes log log' whole = record {
+  bytes = bytes;
+  read = whole.read;
+  reads = whole.reads;
+  ended = elim whole.ended as (λ _. (log' ≡ whole.read) ⊎ (log' ≡ Ended id ∷ whole.read)) [ inl is ↦ inr is | inr long ↦ inl long.1 ];
+}
+
+pub leaves_read : (name bytes : List ℕ) (log log' : List Event) → ReadsFile name bytes log log' → LeavesFile Memory name log log'
+leaves_read name bytes log log' file =
+    inr (record { id = file.id; answer = file.answer; left = file.left; does = some_of_input file.id bytes _ file.left file.does; closed = file.closed })
+
+pub reads_until : (why : NotRun) (words : List (Vec ℕ Global)) (i : ℕ) (word : Vec ℕ Global) (name text : List ℕ) (log mid log' : List Event) → i < length words → word ≡ get_or words i word → name ≡ word.items → ReadsFiles (take i (texts words)) text log mid → LeavesFile why name mid log' → ReadsUntil why (texts words) log log'
+reads_until why words i word name text log mid log' inside is same files leaves = record {
+  before = take i (texts words);
+  name = name;
+  behind = drop (i + 1) (texts words);
+  named = sym (take-append-drop i (texts words)) ∙ ap (λ l. take i (texts words) ++ l) (word_at words i word name inside is same);
+  text = text;
+  between = mid;
+  reads = files;
+  leaves = leaves;
+}

@@ -5,8 +5,8 @@ ghost use Rattle.awk_streams.specs.WorldState.{IsFresh, Opens, SameOpen};
 ghost use Rattle.awk_streams.specs.Log.{logged, input_opening};
 ghost use Rattle.awk_command.specs.CommandLine.{texts, source_of};
 ghost use Rattle.awk_command.specs.ProgramText.{kind_of, opened_name, with_newline, ReadsInput, ReadsFile};
-ghost use Rattle.awk_command.specs.ProgramText.{ReadsFiles, IsNotRead, IsBroken, IsUnreadable, ProvidesText};
-ghost use Rattle.awk_command.specs.Parts.{ReadsChunk, reason_of};
+ghost use Rattle.awk_command.specs.ProgramText.{ReadsFiles, LeavesFile, ReadsUntil, IsNotRead, ProvidesText};
+ghost use Rattle.awk_command.specs.Parts.{ReadsChunk, LeavesChunk, LeavesInput, reason_of};
 
 use crate::command_line::ProgramSource;
 use crate::report::NotRun;
@@ -56,7 +56,8 @@ fn read_chunk<W: World>(
         ReadsChunk id more bytes.old.items bytes.new.items (W.state world.old).log (W.state world.new).log) }
     ensures more { result ≡ Ok true → length bytes.old.items < length bytes.new.items }
     ensures err { IfErr result IsNotRead }
-    ensures broken { result ≡ Err NotRun.NotReadable → W.is_logged → IsBroken id (W.state world.new).log }
+    ensures left { IfErr result
+        (λ why. W.is_logged → LeavesChunk why id (W.state world.old).log (W.state world.new).log) }
 {
     match world.read(id, chunk) {
         Ok(0) => Ok(false),
@@ -75,7 +76,8 @@ fn read_input<W: World>(alloc: Global, world: &mut W, id: u64) -> Result<Vec<u8>
     ensures read { IfOk result
         (λ bytes. W.is_logged → ReadsInput id bytes.items (W.state world.old).log (W.state world.new).log) }
     ensures err { IfErr result IsNotRead }
-    ensures broken { result ≡ Err NotRun.NotReadable → W.is_logged → IsBroken id (W.state world.new).log }
+    ensures left { IfErr result
+        (λ why. W.is_logged → LeavesInput why id (W.state world.old).log (W.state world.new).log) }
 {
     let mut bytes = Vec::new(alloc);
     let mut chunk = [0u8; CHUNK];
@@ -93,7 +95,8 @@ fn read_file<W: World>(alloc: Global, world: &mut W, name: &[u8]) -> Result<Vec<
     ensures read { IfOk result
         (λ bytes. W.is_logged → ReadsFile name.now bytes.items (W.state world.old).log (W.state world.new).log) }
     ensures err { IfErr result IsNotRead }
-    ensures unreadable { result ≡ Err NotRun.NotReadable → W.is_logged → IsUnreadable (W.state world.new).log }
+    ensures left { IfErr result
+        (λ why. W.is_logged → LeavesFile why name.now (W.state world.old).log (W.state world.new).log) }
 {
     let id = open(world, name).map_err(not_read)?;
     let bytes = read_input(alloc, world, id);
@@ -117,7 +120,8 @@ fn read_files<W: World>(alloc: Global, world: &mut W, names: &[Vec<u8>]) -> Resu
     ensures read { IfOk result
         (λ text. W.is_logged → ReadsFiles (texts names.now) text.items (W.state world.old).log (W.state world.new).log) }
     ensures err { IfErr result IsNotRead }
-    ensures unreadable { result ≡ Err NotRun.NotReadable → W.is_logged → IsUnreadable (W.state world.new).log }
+    ensures left { IfErr result
+        (λ why. W.is_logged → ReadsUntil why (texts names.now) (W.state world.old).log (W.state world.new).log) }
 {
     let mut text = Vec::new(alloc);
     for name in names {
