@@ -123,20 +123,66 @@ without() {
     done
 }
 
-# Proves a crate. The program is linked too, and run on no input.
+# Copies a folder by hard links, or as it is where there can be none.
+link_folder() {
+    mkdir -p "$(dirname "$2")"
+    cp -R -l "$1" "$2" 2>/dev/null || { rm -rf "$2" && cp -R "$1" "$2"; }
+}
+
+# Makes a tree in which a crate is proved, and the crates that it stands on are there as they were proved:
+# rt keeps every other call out of the folders of all that a crate stands on, so no two crates over a
+# common one can be proved side by side in one tree.
+make_lane() {
+    mkdir -p "$lane/crates/$1"
+    cp "$root/crates.txt" "$root/HANDLES" "$lane"
+    needed=''
+    need "$1"
+    for each in $needed; do
+        for part in src specs proofs out/rlib; do
+            [ ! -d "$root/crates/$each/$part" ] ||
+                link_folder "$root/crates/$each/$part" "$lane/crates/$each/$part"
+        done
+    done
+    for each in "$root"/crates/*; do
+        [ -d "$lane/crates/${each##*/}" ] || ln -s "$each" "$lane/crates/${each##*/}"
+    done
+    # What an earlier build has checked of the crate goes along.
+    rm -rf "$lane/crates/$1/out"
+    [ ! -d "$root/crates/$1/out" ] || mv "$root/crates/$1/out" "$lane/crates/$1/out"
+}
+
+# Takes what a proof left out of its tree.
+clear_lane() {
+    if [ -d "$lane/crates/$1/out" ]; then
+        rm -rf "$root/crates/$1/out"
+        mv "$lane/crates/$1/out" "$root/crates/$1/out"
+    fi
+    rm -rf "$lane"
+}
+
+# Proves a crate by so many jobs. The program is linked too, and run on no input.
 prove() {
     crate=$1
-    cd "$root/crates/$crate" || return
-    set -- lib
-    [ "$crate" != "$built" ] || set -- run -- '{ print }'
+    lane=$build/lanes/$crate
+    status=0
+    if [ "$crate" = "$built" ]; then
+        cd "$root/crates/$crate" || return
+        set -- run --jobs "$2" -- '{ print }'
+    else
+        make_lane "$crate" && cd "$lane/crates/$crate" || return
+        set -- lib --jobs "$2"
+    fi
     rt "$@" >"$build/$crate.log" 2>&1 </dev/null &
     proof=$!
-    trap 'kill "$proof" 2>/dev/null' TERM
-    status=0
+    trap 'kill "$proof" 2>/dev/null; wait "$proof" 2>/dev/null' TERM
     wait "$proof" || status=$?
+    trap - TERM
+    cd "$root" || return
+    [ "$crate" = "$built" ] || clear_lane "$crate"
     echo "$status" >"$build/$crate.status"
 }
 
+# Begins the proof of a crate, where so many are going on or begin now.
 start() {
     number=$((number + 1))
     seconds=$(($(date +%s) - begun))
@@ -144,7 +190,10 @@ start() {
         $((seconds / 60)) $((seconds % 60)))"
     left=$(without "$1" $left)
     running="$running $1"
-    prove "$1" &
+    # (a proof ends in a few functions that are proved one by one, so there may be more jobs than processors)
+    threads=$((1 + (lanes + $2 - 1) / $2))
+    [ "$threads" -le "$lanes" ] || threads=$lanes
+    prove "$1" "$threads" &
     jobs="$jobs $!"
 }
 
@@ -161,18 +210,25 @@ finish() {
 prove_all() {
     needed='' running='' number=0
     need "$built"
-    left=$needed
+    # (first those that many crates stand on)
+    left=$(for crate in $needed; do
+        printf '%d %s\n' "$(grep -c "[: ]$crate\( \|\$\)" "$root/crates.txt")" "$crate"
+    done | sort -s -r -n | sed 's/.* //' | tr '\n' ' ')
     count=$(printf '%s\n' $needed | wc -l)
     begun=$(date +%s)
     count_lanes
     say "proving $count crates, up to $lanes side by side, which takes some $((30 + 65 / lanes)) minutes from nothing"
     say "to see before that what a program prints: cd crates/$built && rt try -- PROGRAM"
     while [ -n "$left$running" ]; do
+        ready=''
         for crate in $left; do
+            ! is_ready "$crate" || ready="$ready $crate"
+        done
+        set -- $running $ready
+        together=$#
+        for crate in $ready; do
             set -- $running
-            if [ "$#" -lt "$lanes" ] && is_ready "$crate"; then
-                start "$crate"
-            fi
+            [ "$#" -ge "$lanes" ] || start "$crate" "$together"
         done
         sleep 0.2 2>/dev/null || sleep 1
         for crate in $running; do
@@ -183,6 +239,10 @@ prove_all() {
 
 build_program() {
     command -v rt >/dev/null || fail 'rt, which proves and builds the program, is not in PATH'
+    # (a build that was killed left its trees)
+    for lane in "$build"/lanes/*; do
+        [ ! -d "$lane" ] || clear_lane "${lane##*/}"
+    done
     rm -rf "$build"
     mkdir "$build" || exit 2
     : >"$build/begun"
