@@ -217,7 +217,7 @@ prove_all() {
     count=$(printf '%s\n' $needed | wc -l)
     begun=$(date +%s)
     count_lanes
-    say "proving $count crates, up to $lanes side by side, which takes some $((30 + 65 / lanes)) minutes from nothing"
+    say "proving $count crates, up to $lanes side by side, which takes some $((15 + 60 / lanes)) minutes from nothing"
     say "to see before that what a program prints: cd crates/$built && rt try -- PROGRAM"
     while [ -n "$left$running" ]; do
         ready=''
