@@ -11,6 +11,7 @@ mod Moves
 mod Int64
 mod Decimals
 mod Words
+mod Worth
 mod NamedKeys
 mod NumbersAndTexts
 mod Joined

@@ -1,10 +1,10 @@
 -- Short texts as words: what is packed is the text.
-use Rattle.std.proofs.Common.{◌≡◌, ℕ, zero, suc, ◌+◌, ◌-◌, ◌<◌, ◌≤◌, List, [], ◌∷◌, ◌++◌, take, drop, set, length, get_or, replicate, min, refl, sym, ap, ◌∙◌, arith, append_assoc, length-append, w64}
+use Rattle.std.proofs.Common.{◌≡◌, ℕ, zero, suc, ◌+◌, ◌-◌, ◌<◌, ◌≤◌, List, [], ◌∷◌, ◌++◌, take, drop, length, get_or, replicate, min, refl, sym, ap, ◌∙◌, arith, append_assoc, length-append, w64}
 use Rattle.std.specs.Prelude.{slice_index}
 use Rattle.std.specs.Int.{to_le_bytes}
 use Rattle.std.specs.List.{AllByRecursion}
 use Rattle.std.proofs.Math.Seq.{drop-cons, take-append_seam}
-use Rattle.std.proofs.lemmas.List.{drop-replicate, length-replicate, set-append_right, take_all}
+use Rattle.std.proofs.lemmas.List.{length-replicate, take_all}
 use Rattle.std.proofs.lemmas.Nat.{le_bytes_8}
 use Rattle.awk_value.specs.declared.short_text.ShortText.{ShortText}
 use Rattle.awk_value.specs.support.Texts.{word_at, room, short_text, filled, packed}
@@ -47,26 +47,11 @@ gets-are (suc k) l at h =
     ap (λ r. slice_index l at ∷ r) (gets-are k l (suc at) (omega arith)) ∙ sym (ap (take (suc k)) (drop-cons l at 0 (omega arith)))
 
 -- the last place of what is filled up
-set-last : (m v : ℕ) → set (replicate (suc m) 0) m v ≡ replicate m 0 ++ v ∷ []
-set-last zero v = refl
-set-last (suc m) v = ap (λ l. 0 ∷ l) (set-last m v)
-
 get-last : (xs : List ℕ) (v n : ℕ) → length xs ≡ n → slice_index (xs ++ v ∷ []) n ≡ v
 get-last [] v zero e = refl
 get-last [] v (suc n) e = absurd (omega arith)
 get-last (x ∷ xs) v zero e = absurd (omega arith)
 get-last (x ∷ xs) v (suc n) e = get-last xs v n (omega arith)
-
-pub filled-is : (text copied : List ℕ) → copied ≡ text → length text ≤ 23
-    → set (copied ++ drop (length text) (replicate 24 0)) 23 (length text) ≡ filled text
-unfolding filled
-filled-is text copied e few =
-    let v = length text in
-    let m = 23 - v in
-    let more : 24 - v ≡ suc m = omega arith in
-    (λ j. set (e j ++ (drop-replicate v 24 0 ∙ ap (λ k. replicate k 0) more) j) 23 v)
-    ∙ set-append_right text (replicate (suc m) 0) v 23 v refl (omega arith)
-    ∙ ap (λ l. text ++ l) (set-last m v)
 
 module _ (text : List ℕ) (few : length text ≤ 23) where
   long : length (filled text) ≡ 24
@@ -75,7 +60,7 @@ module _ (text : List ℕ) (few : length text ≤ 23) where
       let zeros : List ℕ = replicate (23 - length text) 0 in
       omega (arith, length-append text (zeros ++ length text ∷ []), length-append zeros (length text ∷ []), length-replicate {A = ℕ} (23 - length text) 0)
 
-  count : slice_index (filled text) 23 ≡ length text
+  pub count : slice_index (filled text) 23 ≡ length text
   unfolding filled
   count =
       let zeros : List ℕ = replicate (23 - length text) 0 in

@@ -19,9 +19,7 @@ pub fn mul(m: i128, n: i128) -> Result<i128, ValueFault>
 {
     match (i64::try_from(m), i64::try_from(n)) {
         // (no product of these is out of range, which the processor's own multiplication gives)
-        (Ok(short), Ok(other)) => i128::from(short)
-            .checked_mul(i128::from(other))
-            .ok_or(ValueFault::Range),
+        (Ok(short), Ok(other)) => Ok(i128::from(short).wrapping_mul(i128::from(other))),
         _ => m.checked_mul(n).ok_or(ValueFault::Range),
     }
 }

@@ -2,11 +2,14 @@
 // place where one text alone holds it.
 
 ghost use Rattle.std.specs.Prelude.{◌≡◌, ℕ, ◌+◌, ◌<◌, ◌≤◌, ◌==◌, if◌then◌else◌, true, false};
-ghost use Rattle.std.specs.Prelude.{List, [], ◌++◌, length, take, drop, vec_len, IfOk, OnOk, OnErr};
+ghost use Rattle.std.specs.Prelude.{List, [], ◌++◌, length, take, drop, vec_len, IfOk, OnOk, OnErr, IfSome, IfNone};
+
+mod cuts;
 
 use crate::short::{MOST, ShortBytes};
 use std::alloc::{AllocError, Global};
 use std::marker::Model;
+use std::mem;
 use std::rc::Rc;
 
 /// The last place in memory that a text with places of 32 bits reaches.
@@ -126,6 +129,18 @@ impl Bytes {
         }
     }
 
+    /// Appends the bytes to a line that may grow up to this length in its memory: whether they have room
+    /// there. Takes no memory; few bytes are written by a copy of a fixed size where it has room for one.
+    #[inline(always)]
+    pub fn put_within(&self, line: &mut Vec<u8>, end: usize) -> bool
+        ensures { line.new.items ≡ (if result then line.old.items ++ self.now else line.old.items) }
+    {
+        match &self.form {
+            Form::Short(text) => text.put_within(line, end),
+            _ => put_all(self.as_slice(), line, end),
+        }
+    }
+
     /// The number of bytes.
     #[inline]
     pub fn len(&self) -> usize
@@ -144,38 +159,6 @@ impl Bytes {
         ensures { result ≡ (length self.now == 0) }
     {
         self.len() == 0
-    }
-
-    /// The bytes from `from` up to `to`, which share this text's memory where they are many. Fails
-    /// only where the memory has no room for one more owner, or where memory is refused.
-    #[inline]
-    pub fn cut(&self, from: usize, to: usize) -> Result<Bytes, AllocError>
-        requires ordered { from ≤ to }
-        requires within { to ≤ length self.now }
-        ensures { IfOk result (λ text. text ≡ drop from (take to self.now)) }
-    {
-        if let Form::Shared(memory, start, end) = &self.form {
-            let _end = *end;
-            return cut_shared(memory, *start, from, to);
-        }
-        self.cut_apart(from, to)
-    }
-
-    /// The same, by a copy.
-    #[inline(never)]
-    fn cut_apart(&self, from: usize, to: usize) -> Result<Bytes, AllocError>
-        requires ordered { from ≤ to }
-        requires within { to ≤ length self.now }
-        ensures { IfOk result (λ text. text ≡ drop from (take to self.now)) }
-    {
-        match &self.form {
-            Form::Short(text) => Ok(short(&text.as_slice()[from..to])),
-            Form::Shared(memory, start, end) => {
-                let _end = *end;
-                cut_shared(memory, *start, from, to)
-            }
-            Form::Large(_, _, alloc) => Bytes::from_slice(*alloc, &self.as_slice()[from..to]),
-        }
     }
 
     /// Drops the first bytes, so many, in no time.
@@ -246,6 +229,51 @@ impl Bytes {
         Bytes::from_slice(alloc, self.as_slice())
     }
 
+    /// Copies these bytes to the front of the text's memory, where nothing else shares it, and it has room for so many and not for many
+    /// more: whether they were copied. Then they are the text, which can grow there. Takes no memory.
+    #[inline]
+    pub fn refill(&mut self, bytes: &[u8]) -> bool
+        ensures { self.new ≡ (if result then bytes.now else self.old) }
+    {
+        let Form::Shared(memory, start, end) = &mut self.form else {
+            return false;
+        };
+        let Some(memory) = Rc::get_mut(memory) else {
+            return false;
+        };
+        let room = memory.capacity();
+        if room < bytes.len() || room / 4 > bytes.len() + 64 || room > LAST_PLACE {
+            return false;
+        }
+        memory.clear();
+        let _copied = memory.extend_from_slice(bytes);
+        *start = 0;
+        *end = bytes.len() as u32;
+        true
+    }
+
+    /// The text of these bytes, copied as `refill` does to the text's memory, which is taken from it. Nothing is
+    /// answered where they aren't copied, and then the text is as it was.
+    #[inline]
+    pub(crate) fn refilled(&mut self, bytes: &[u8]) -> Option<Bytes>
+        ensures refilled { IfSome result (λ text. text ≡ bytes.now) }
+        ensures kept { IfNone result (self.new ≡ self.old) }
+    {
+        if !self.refill(bytes) {
+            return None;
+        }
+        Some(mem::replace(self, Bytes::empty()))
+    }
+
+    /// Whether the text stands in memory, which others may share.
+    #[inline]
+    pub(crate) fn has_memory(&self) -> bool {
+        match &self.form {
+            Form::Shared(..) => true,
+            Form::Short(..) | Form::Large(..) => false,
+        }
+    }
+
     /// Appends a copy of these bytes. The memory grows in place, in time of the bytes appended on
     /// average, where nothing else shares it and the text ends where it ends; else the text is
     /// copied to memory of its own. Fails only where memory is refused, and then leaves the text
@@ -311,32 +339,21 @@ fn append_all(bytes: &[u8], buffer: &mut Vec<u8>) -> Result<(), AllocError>
     buffer.extend_from_slice(bytes)
 }
 
+/// Appends bytes, of which there may be many, to a line that may grow up to this length in its memory.
+#[inline(never)]
+fn put_all(bytes: &[u8], line: &mut Vec<u8>, end: usize) -> bool
+    ensures { line.new.items ≡ (if result then line.old.items ++ bytes.now else line.old.items) }
+{
+    let room = end.min(line.capacity()).saturating_sub(line.len());
+    bytes.len() <= room && line.extend_from_slice(bytes).is_ok()
+}
+
 /// The text of a copy of these bytes, in memory of its own.
 #[inline(never)]
 fn copied(alloc: Global, bytes: &[u8]) -> Result<Bytes, AllocError>
     ensures { IfOk result (λ text. text ≡ bytes.now) }
 {
     Bytes::from_part(alloc, Vec::from_slice(alloc, bytes)?, bytes.len())
-}
-
-/// The text of a part of this memory behind a place.
-#[inline]
-fn cut_shared(memory: &Rc<Vec<u8>>, start: u32, from: usize, to: usize) -> Result<Bytes, AllocError>
-    requires ordered { from ≤ to }
-    requires within { start + to ≤ length memory.now.value.items }
-    requires places { start + to ≤ LAST_PLACE }
-    ensures { IfOk result (λ text. text ≡ drop (start + from) (take (start + to) memory.now.value.items)) }
-{
-    let start = start as usize;
-    let (from, to) = (start + from, start + to);
-    if to - from <= MOST {
-        return Ok(Bytes {
-            form: Form::Short(ShortBytes::cut(memory.as_slice(), from, to)),
-        });
-    }
-    Ok(Bytes {
-        form: Form::Shared(memory.clone()?, from as u32, to as u32),
-    })
 }
 
 /// The text of the first of these bytes, which may be too many for places of 32 bits.

@@ -68,6 +68,22 @@ impl ShortBytes {
         }
     }
 
+    /// Makes it the text of a part of this memory, where it stands.
+    #[inline(always)]
+    pub(crate) fn take_part(&mut self, memory: &[u8], from: usize, to: usize)
+        requires ordered { from ≤ to }
+        requires within { to ≤ length memory.now }
+        requires few { to ≤ from + MOST }
+        ensures { self.new ≡ drop from (take to memory.now) }
+    {
+        if memory.len() - from < MOST {
+            *self = ShortBytes::new(&memory[from..to]);
+            return;
+        }
+        self.bytes.copy_from_slice(&memory[from..from + MOST]);
+        self.len = (to - from) as u32;
+    }
+
     /// A copy of the text.
     #[inline(always)]
     pub(crate) fn copy(&self) -> ShortBytes
@@ -112,6 +128,28 @@ impl ShortBytes {
         buffer.extend_from_slice(&self.bytes)?;
         buffer.truncate(end);
         Ok(())
+    }
+
+    /// Appends the bytes to a line that may grow up to this length in its memory, by a copy of a fixed
+    /// size where it has room for one: whether they have room there.
+    #[inline(always)]
+    pub(crate) fn put_within(&self, line: &mut Vec<u8>, end: usize) -> bool
+        ensures { line.new.items ≡ (if result then line.old.items ++ self.now else line.old.items) }
+    {
+        let text = self.as_slice();
+        let start = line.len();
+        let most = end.min(line.capacity());
+        if text.len() > most.saturating_sub(start) {
+            return false;
+        }
+        if line.capacity() - start < MOST {
+            return line.extend_from_slice(text).is_ok();
+        }
+        if line.extend_from_slice(&self.bytes).is_err() {
+            return false;
+        }
+        line.truncate(start + text.len());
+        true
     }
 
     /// Appends a copy of these bytes where there is room for them: whether there is.

@@ -1,7 +1,7 @@
 // Texts that are kept in place, with no block of memory of their own.
 
-ghost use Rattle.std.specs.Prelude.{◌≡◌, ◌<◌, ◌≤◌, length, take, IfSome, IfNone};
-ghost use Rattle.awk_value.specs.support.Texts.{short_text, IsPadded, word_at};
+ghost use Rattle.std.specs.Prelude.{◌≡◌, ◌+◌, ◌<◌, ◌≤◌, length, take, IfSome, IfNone};
+ghost use Rattle.awk_value.specs.support.Texts.{short_text, IsPadded, word_at, half_at};
 
 /// How many bytes a short text has at most.
 const ROOM: usize = 23;
@@ -17,20 +17,57 @@ pub(crate) struct ShortText {
 
 /// The eight bytes from a place on, as a word.
 #[inline(always)]
-fn word(bytes: &[u8; 24], at: usize) -> u64
-    requires { at ≤ 16 }
+fn word(bytes: &[u8], at: usize) -> u64
+    requires { at + 8 ≤ length bytes.now }
     ensures { result ≡ word_at bytes.now at }
 {
-    u64::from_le_bytes([
-        bytes[at],
-        bytes[at + 1],
-        bytes[at + 2],
-        bytes[at + 3],
-        bytes[at + 4],
-        bytes[at + 5],
-        bytes[at + 6],
-        bytes[at + 7],
-    ])
+    let mut eight = [0; 8];
+    eight.copy_from_slice(&bytes[at..at + 8]);
+    u64::from_le_bytes(eight)
+}
+
+/// The bytes from a place that a multiple of eight is on, of which there are fewer than eight, as a word: those of the last eight bytes
+/// that stand there.
+#[inline(always)]
+fn rest(bytes: &[u8], at: usize) -> u64
+    requires long { 8 ≤ length bytes.now }
+    requires within { at ≤ length bytes.now }
+    requires few { length bytes.now < at + 8 }
+    ensures { result ≡ word_at bytes.now at }
+{
+    let missing = 7 - (bytes.len() - at);
+    word(bytes, bytes.len() - 8) >> (8 * missing) >> 8
+}
+
+/// Fewer than eight bytes as a word.
+#[inline(always)]
+fn few(bytes: &[u8]) -> u64
+    requires { length bytes.now < 8 }
+    ensures { result ≡ word_at bytes.now 0 }
+{
+    let len = bytes.len();
+    if len >= 4 {
+        let front = half(bytes, 0);
+        let back = half(bytes, len - 4) >> (8 * (8 - len));
+        return front | back << 32;
+    }
+    match len {
+        0 => 0,
+        1 => bytes[0] as u64,
+        2 => bytes[0] as u64 | (bytes[1] as u64) << 8,
+        _ => bytes[0] as u64 | (bytes[1] as u64) << 8 | (bytes[2] as u64) << 16,
+    }
+}
+
+/// The four bytes from a place on, as a word.
+#[inline(always)]
+fn half(bytes: &[u8], at: usize) -> u64
+    requires { at + 4 ≤ length bytes.now }
+    ensures { result ≡ half_at bytes.now at }
+{
+    let mut four = [0; 4];
+    four.copy_from_slice(&bytes[at..at + 4]);
+    u32::from_le_bytes(four) as u64
 }
 
 impl ShortText {
@@ -44,13 +81,26 @@ impl ShortText {
         if text.len() > ROOM {
             return None;
         }
-        let mut bytes = [0; 24];
-        bytes[..text.len()].copy_from_slice(text);
-        bytes[ROOM] = text.len() as u8;
+        let len = (text.len() as u64) << 56;
+        if text.len() < 8 {
+            return Some(ShortText {
+                first: few(text),
+                second: 0,
+                third: len,
+            });
+        }
+        let first = word(text, 0);
+        if text.len() < 16 {
+            return Some(ShortText {
+                first,
+                second: rest(text, 8),
+                third: len,
+            });
+        }
         Some(ShortText {
-            first: word(&bytes, 0),
-            second: word(&bytes, 8),
-            third: word(&bytes, 16),
+            first,
+            second: word(text, 8),
+            third: rest(text, 16) | len,
         })
     }
 

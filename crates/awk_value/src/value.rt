@@ -1,6 +1,6 @@
 // The values of the language.
 
-ghost use Rattle.std.specs.Prelude.{◌≡◌, IfOk, OnOk, OnErr};
+ghost use Rattle.std.specs.Prelude.{◌≡◌, true, false, IfOk, OnOk, OnErr, IfSome, IfNone};
 
 use crate::bytes::Bytes;
 use std::alloc::{AllocError, Global};
@@ -59,12 +59,73 @@ impl Value {
         ensures received { OnOk result (self.new ≡ value) }
         ensures unchanged { OnErr result (self.new ≡ self.old) }
     {
+        if self.has_memory() && !value.is_moved() && self.refill(&value) {
+            return Ok(());
+        }
         if value.is_settled() {
             *self = value;
             return Ok(());
         }
         *self = value.copied(alloc)?;
         Ok(())
+    }
+
+    /// Whether it is a text that stands in memory.
+    #[inline]
+    fn has_memory(&self) -> bool {
+        match self {
+            Value::Text(text) | Value::Input(text) => text.has_memory(),
+            Value::Nothing | Value::Number(_) => false,
+        }
+    }
+
+    /// Whether it is no text, or one whose memory is kept.
+    #[inline]
+    fn is_moved(&self) -> bool {
+        match self {
+            Value::Text(text) | Value::Input(text) => text.has_memory() && text.is_settled(),
+            Value::Nothing | Value::Number(_) => true,
+        }
+    }
+
+    /// Gives a place that holds a text a text, which is copied to the memory of the one before, where that has
+    /// room: whether it was. Takes no memory.
+    #[inline(never)]
+    fn refill(&mut self, value: &Value) -> bool
+        ensures refilled { result ≡ true → self.new ≡ value.now }
+        ensures kept { result ≡ false → self.new ≡ self.old }
+    {
+        match value {
+            Value::Text(text) => match self.refilled(text.as_slice()) {
+                Some(text) => {
+                    *self = Value::Text(text);
+                    true
+                }
+                None => false,
+            },
+            Value::Input(text) => match self.refilled(text.as_slice()) {
+                Some(text) => {
+                    *self = Value::Input(text);
+                    true
+                }
+                None => false,
+            },
+            Value::Nothing | Value::Number(_) => false,
+        }
+    }
+
+    /// The text of these bytes in the memory of the text before, which is taken from the place. Nothing is
+    /// answered where that has no room, and then the place is as it was.
+    #[inline(always)]
+    fn refilled(&mut self, bytes: &[u8]) -> Option<Bytes>
+        ensures refilled { IfSome result (λ text. text ≡ bytes.now) }
+        ensures kept { IfNone result (self.new ≡ self.old) }
+    {
+        match self {
+            Value::Text(place) => place.refilled(bytes),
+            Value::Input(place) => place.refilled(bytes),
+            Value::Nothing | Value::Number(_) => None,
+        }
     }
 }
 

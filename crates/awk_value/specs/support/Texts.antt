@@ -3,7 +3,7 @@ use Rattle.std.specs.Prelude.{◌≡◌, ℕ, ℤ, ◌<◌, ◌≤◌, ◌+◌, 
 use Rattle.std.specs.Int.Signed.{mag}
 use Rattle.std.specs.Fmt.{signed_decimal}
 use Rattle.std.specs.Int.{to_le_bytes, from_le_bytes}
-use mir.Syntax.{w64}
+use mir.Syntax.{w32, w64}
 use Rattle.awk_value.specs.declared.short_text.ShortText.{ShortText}
 
 -- from -2^63 to 2^63 - 1
@@ -23,6 +23,11 @@ digits_after n (c ∷ cs) = digits_after (n * 10 + (c - 48)) cs
 unfoldable pub word_at : List ℕ → ℕ → ℕ
 word_at bytes at =
     from_le_bytes w64 (slice_index bytes at ∷ slice_index bytes (at + 1) ∷ slice_index bytes (at + 2) ∷ slice_index bytes (at + 3) ∷ slice_index bytes (at + 4) ∷ slice_index bytes (at + 5) ∷ slice_index bytes (at + 6) ∷ slice_index bytes (at + 7) ∷ [])
+
+-- four bytes as a word
+unfoldable pub half_at : List ℕ → ℕ → ℕ
+half_at bytes at =
+    from_le_bytes w32 (slice_index bytes at ∷ slice_index bytes (at + 1) ∷ slice_index bytes (at + 2) ∷ slice_index bytes (at + 3) ∷ [])
 
 -- the bytes that the words of a short text hold
 unfoldable pub room : ShortText → List ℕ
