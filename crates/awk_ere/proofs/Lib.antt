@@ -1,3 +1,4 @@
+pub mod BeginsAtStart
 pub mod BracketRoundTrip
 pub mod BracketValue
 pub mod CheckDecidesText
@@ -8,6 +9,7 @@ pub mod EscapeRoundTrip
 pub mod IntervalRoundTrip
 pub mod IntervalValue
 pub mod OneTree
+pub mod OneByteOccurs
 pub mod ParseRoundTrip
 pub mod PatternDecided
 pub mod RefusalsExclusive

@@ -13,7 +13,7 @@ use Rattle.awk_ere.specs.definitions.Tree.{Class, has, class_of, Tree, Matches, 
 use Rattle.awk_ere.specs.definitions.Desugared.{Re, eps, one, first, last, cat, alt, plus, MatchesRe, desugar}
 use Rattle.awk_ere.specs.definitions.Program.{ResolvedInstruction, read, resolve, code}
 use Rattle.awk_ere.specs.support.Layout.{byte_count}
-use Rattle.awk_ere.specs.support.Found.{EndsAt}
+use Rattle.awk_ere.specs.support.Found.{EndsAt, IsOneByte}
 use Rattle.awk_ere.specs.definitions.Means.{Means, occurs}
 use Rattle.awk_ere.specs.support.Table.{ReadsBytes}
 use Rattle.awk_ere.specs.declared.pattern.Pattern.{Pattern}
@@ -118,6 +118,18 @@ whole t p l means literal =
       sound = λ s i j m. subst (λ b. Stands s b i j) (sym all) (r.sound s i j (desugar_to s t i j m));
       complete = λ s i j h. desugar_from s t i j means.0 (r.complete s i j small (subst (λ b. Stands s b i j) all h));
     }
+
+-- a text of one byte
+only_one : (l : List ℕ) → length l ≡ 1 → l ≡ get_or l 0 0 ∷ []
+only_one [] e = absurd (omega (arith, e))
+only_one (b ∷ []) e = refl
+only_one (b ∷ c ∷ l) e = absurd (omega (arith, e))
+
+pub one_byte : (t : Tree) (p : Pattern) (l : List ℕ) → length l ≡ 1 → Means t p → ReadsBytes l p → IsOneByte t (get_or l 0 0)
+one_byte t p l e means literal =
+    let byte = get_or l 0 0 in
+    let w = whole t p (byte ∷ []) means (subst (λ k. ReadsBytes k p) (only_one l e) literal) in
+    λ s i j. (λ m. let h = w.sound s i j m in (h.0, sym h.1), λ h. w.complete s i j (h.0, sym h.1))
 
 -- a search for the text finds where a match ends
 literal_ends : (t : Tree) (p : Pattern) (s l : List ℕ) (r : Option ℕ) → Means t p → ReadsBytes l p → FindsNeedle s l 0 r → EndsAt t s 0 (length s) (option_map (λ i. i + length l) r)

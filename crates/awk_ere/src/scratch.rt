@@ -2,7 +2,7 @@
 
 ghost use Rattle.std.specs.Prelude.{◌≡◌, true, MatchResult, is_some};
 ghost use Rattle.awk_ere.specs.support.SimulationStep.{IsStill, AreFor};
-ghost use Rattle.awk_ere.specs.support.Table.{IsFor};
+ghost use Rattle.awk_ere.specs.support.Table.{BeginsAtStart, IsFor};
 
 use crate::dfa::table::Table;
 use crate::fault::PatternFault;
@@ -83,11 +83,13 @@ impl Pattern {
     fn is_anchored_at_start(&self, position_set: &mut PositionSet) -> bool
         requires { AreFor position_set.old self.now }
         ensures still { result ≡ true → IsStill self.now true }
+        ensures begins { result ≡ true → BeginsAtStart self.now }
         ensures same { AreFor position_set.new self.now }
     {
-        if self.program.instructions.first() != Some(&Instruction::Start)
-            || self.program.instructions.len() > SHORT
-        {
+        let Some(Instruction::Start) = self.program.instructions.first() else {
+            return false;
+        };
+        if self.program.instructions.len() > SHORT {
             return false;
         }
         for byte in 0..=255 {

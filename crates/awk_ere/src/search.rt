@@ -2,12 +2,13 @@
 // the first stretch of places where one is known to begin: at the first of them, and by halving.
 
 ghost use Rattle.std.specs.Prelude.{◌≡◌, ◌↔◌, ℕ, ◌≤◌, true, false, length, IfSome, OnSome};
+ghost use Rattle.memchr.specs.Find.{FindsNeedle};
 ghost use Rattle.awk_ere.specs.definitions.Tree.{Tree, NoneFrom, Finds, Occurs};
 ghost use Rattle.awk_ere.specs.definitions.Means.{Means, occurs, HasNoneUpTo};
 ghost use Rattle.awk_ere.specs.support.Table.{IsFor, Serves};
 ghost use Rattle.awk_ere.specs.support.Required.{PassesOver};
 ghost use Rattle.awk_ere.specs.support.Failures.{AreFailures};
-ghost use Rattle.awk_ere.specs.support.Found.{EndsWithin, Longest, OccursBetween, EndsAt, Begins, BeginsWithin};
+ghost use Rattle.awk_ere.specs.support.Found.{EndsWithin, IsOneByte, Longest, OccursBetween, EndsAt, Begins, BeginsWithin};
 
 use crate::dfa::cursor::Cursor;
 use crate::failures::Failures;
@@ -15,6 +16,19 @@ use crate::pattern::Pattern;
 use crate::required::LONG;
 use crate::run::first_run;
 use crate::scratch::Scratch;
+use memchr::memchr;
+use memchr::memmem::Finder;
+
+// The first place of the text that a pattern is. Many are one byte.
+#[inline(always)]
+fn find_literal(finder: &Finder<'static>, text: &[u8]) -> Option<usize>
+    ensures { FindsNeedle text.now finder.now 0 result }
+{
+    match finder.needle() {
+        [byte] => memchr(*byte, text),
+        _ => finder.find(text),
+    }
+}
 
 impl Pattern {
     // A cursor behind the longest match that begins at `from`, with the match's end. One byte is read where a match begins,
@@ -243,6 +257,9 @@ impl Pattern {
         ensures same { Serves scratch.new self.now }
         ensures failures { AreFailures self.now text.now failures.new }
     {
+        if scratch.anchored_at_start {
+            return self.find_at_start(text, from, scratch, failures);
+        }
         if self.lacks_required(text, from, scratch) {
             return None;
         }
@@ -259,6 +276,31 @@ impl Pattern {
         Some((start, end))
     }
 
+    // The same of a pattern whose matches all begin at the text's start: it is looked for there alone.
+    #[inline(always)]
+    fn find_at_start(
+        &self,
+        text: &[u8],
+        from: usize,
+        scratch: &mut Scratch,
+        failures: &mut Failures,
+    ) -> Option<(usize, usize)>
+        requires same { Serves scratch.old self.now }
+        requires anchored { scratch.old.anchored_at_start ≡ true }
+        requires failures { AreFailures self.now text.now failures.old }
+        requires within { from ≤ length text.now }
+        ensures within { IfSome result (λ m. (from ≤ m.0) × ((m.0 ≤ m.1) × (m.1 ≤ length text.now))) }
+        ensures found { (t : Tree) → Means t self.now → Finds t text.now from result }
+        ensures same { Serves scratch.new self.now }
+        ensures failures { AreFailures self.now text.now failures.new }
+    {
+        if from > 0 {
+            return None;
+        }
+        let end = self.longest_end(text, 0, scratch, failures)?;
+        Some((0, end))
+    }
+
     /// Whether the pattern matches somewhere in the text. The time grows with the text. The scratch may take memory, within
     /// its bounds, and does without where memory is refused.
     pub fn is_match(&self, text: &[u8], scratch: &mut Scratch) -> bool
@@ -268,7 +310,7 @@ impl Pattern {
         ensures same { IsFor scratch.new self.now }
     {
         if let Some(finder) = &scratch.literal {
-            return finder.find(text).is_some();
+            return find_literal(finder, text).is_some();
         }
         self.is_match_by_table(text, scratch)
     }
@@ -310,13 +352,28 @@ impl Pattern {
         ensures failures { AreFailures self.now text.now failures.new }
     {
         if let Some(finder) = &scratch.literal {
-            let start = from + finder.find(&text[from..])?;
+            let start = from + find_literal(finder, &text[from..])?;
             return Some((start, start + self.program.instructions.len()));
         }
         if let Some(class) = self.run_class() {
             return first_run(class, text, from);
         }
         self.find_by_table(text, from, scratch, failures)
+    }
+
+    /// The byte that the pattern is, where it is known to be one: then its matches are the places where that stands.
+    #[inline]
+    pub fn literal_byte(&self, scratch: &Scratch) -> Option<u8>
+        requires same { IsFor scratch.now self.now }
+        ensures { IfSome result (λ byte. (t : Tree) → Means t self.now → IsOneByte t byte) }
+    {
+        let Some(finder) = &scratch.literal else {
+            return None;
+        };
+        match finder.needle() {
+            [byte] => Some(*byte),
+            _ => None,
+        }
     }
 
     /// How far a text can be passed over: no part of it that ends at or before this place has a match. It is the first

@@ -1,5 +1,5 @@
 -- What the parts of a search find.
-use Rattle.std.specs.Prelude.{◌≡◌, ℕ, ◌<◌, ◌≤◌, Bool, true, ◌&&◌, nat_le, List, length, Option, Some, None, IsSome, IfSome}
+use Rattle.std.specs.Prelude.{◌≡◌, ◌↔◌, ℕ, suc, ◌<◌, ◌≤◌, Bool, true, ◌&&◌, nat_le, List, length, slice_get, Option, Some, None, IsSome, IfSome}
 use Rattle.awk_ere.specs.definitions.Tree.{Tree, Matches, NoneFrom}
 
 -- a place from one up to another
@@ -44,3 +44,7 @@ Begins t s from (Some i) = (from ≤ i) × ((j : ℕ) × Matches s t i j) × Non
 abbrev pub BeginsWithin : Tree → List ℕ → ℕ → Option (ℕ × ℕ) → Type 0
 BeginsWithin t s from None = Begins t s from None
 BeginsWithin t s from (Some w) = (from ≤ w.0) × NoneFrom t s from w.0 × OccursBetween t s w.0 w.1
+
+-- it matches this byte, wherever it stands, and nothing else
+abbrev pub IsOneByte : Tree → ℕ → Type 0
+IsOneByte t byte = (s : List ℕ) (i j : ℕ) → Matches s t i j ↔ ((slice_get s i ≡ Some byte) × (j ≡ suc i))

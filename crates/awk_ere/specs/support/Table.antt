@@ -1,6 +1,6 @@
 -- The transition table: the states that are known, and where each byte leads from them. A state is a list of positions,
 -- and is named by the place where its entries begin: one for each byte and one for the end of the text.
-use Rattle.std.specs.Prelude.{◌≡◌, ℕ, suc, ◌*◌, ◌<◌, List, map, Option, Some, None, ◌+◌, ◌-◌, ◌/◌, ◌≤◌, Bool, true, false, nat_eq, length, take, drop, slice_index}
+use Rattle.std.specs.Prelude.{◌≡◌, ℕ, suc, ◌*◌, ◌<◌, List, map, Option, Some, None, ◌+◌, ◌-◌, ◌/◌, ◌≤◌, Bool, true, false, nat_eq, length, take, drop, slice_index, slice_get}
 use Rattle.awk_ere.specs.support.Layout.{byte_count, end_of_text, stride, match_flag, state_bound, fixed_states, least_limit}
 use Rattle.awk_ere.specs.declared.dfa.table.Table.{Table}
 use Rattle.std.specs.List.{All}
@@ -100,11 +100,16 @@ is_first (first.Three a b c) x = is_byte3 a b c x
 abbrev pub AreFirst : FirstBytes → Pattern → Type 0
 AreFirst f p = (x : ℕ) → x < byte_count → is_first f x ≡ false → IsStillAt p true x
 
+-- the pattern's program begins with the start of the text
+abbrev pub BeginsAtStart : Pattern → Type 0
+BeginsAtStart p = slice_get p.program.instructions.items 0 ≡ Some instructions.Start
+
 -- the memory of a search by the table serves the pattern
 pub record Serves (s : Scratch) (p : Pattern) : Type 0 where
   pub position_set : AreFor s.position_set p
   pub table : IsTable p s.table
   pub anchored_at_start : s.anchored_at_start ≡ true → IsStill p true
+  pub begins_at_start : s.anchored_at_start ≡ true → BeginsAtStart p
   pub literal : IsLiteral s.literal p
   pub first_bytes : AreFirst s.first_bytes p
   pub required : IsRequired s.required p

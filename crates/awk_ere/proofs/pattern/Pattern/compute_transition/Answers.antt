@@ -37,6 +37,7 @@ returns-in-Some-clause-same c =
           c.in-Some.number c.in-Some.ensures.known.0 new c.set.new.self grows on off c.in-Some.ensures.known.1 (c.in-Some.ensures.positions p len)
           c.entry_to-entry.result c.entry_to-entry.ensures c.set.ensures.rows c.set.ensures.count c.set.ensures.limit c.requires.known (omega arith) c.set.ensures.unanchored c.set.ensures.anchored;
       anchored_at_start = hit.ensures.same.anchored_at_start;
+      begins_at_start = hit.ensures.same.begins_at_start;
       literal = hit.ensures.same.literal;
       first_bytes = hit.ensures.same.first_bytes;
       required = hit.ensures.same.required;
@@ -85,6 +86,7 @@ returns-in-None-clause-same c =
           c.add.result (omega (arith, c.add.ensures.number, room.least)) new c.make_room.new.self grows on off
           c.add.new.self room (c.add.ensures.grows p len) c.add.ensures.unanchored c.add.ensures.anchored;
       anchored_at_start = hit.ensures.same.anchored_at_start;
+      begins_at_start = hit.ensures.same.begins_at_start;
       literal = hit.ensures.same.literal;
       first_bytes = hit.ensures.same.first_bytes;
       required = hit.ensures.same.required;

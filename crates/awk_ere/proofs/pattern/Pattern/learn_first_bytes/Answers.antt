@@ -25,6 +25,7 @@ learned p s f h first = record {
   position_set = h.position_set;
   table = h.table;
   anchored_at_start = h.anchored_at_start;
+  begins_at_start = h.begins_at_start;
   literal = h.literal;
   first_bytes = first;
   required = h.required;

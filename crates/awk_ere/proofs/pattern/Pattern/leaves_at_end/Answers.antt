@@ -24,6 +24,7 @@ returns-clause-same c =
           (c.set.ensures.unanchored ∙ ap (λ a. if c.args.entering then set a.unanchored.items (c.args.state + end_of_text) c.if-leaves.set else a.unanchored.items) same)
           (c.set.ensures.anchored ∙ ap (λ a. if c.args.entering then a.anchored.items else set a.anchored.items (c.args.state + end_of_text) c.if-leaves.set) same);
       anchored_at_start = c.step_from-leaves.ensures.same.anchored_at_start;
+      begins_at_start = c.step_from-leaves.ensures.same.begins_at_start;
       literal = c.step_from-leaves.ensures.same.literal;
       first_bytes = c.step_from-leaves.ensures.same.first_bytes;
       required = c.step_from-leaves.ensures.same.required;

@@ -21,6 +21,7 @@ returns c =
         position_set = c.is_anchored_at_start-anchored_at_start.ensures.same;
         table = table_begun c.args.pattern.now c.in_ok-table.table c.len-count.result (search rules) made.count made.limit made.rows made.unanchored made.anchored;
         anchored_at_start = c.is_anchored_at_start-anchored_at_start.ensures.still;
+        begins_at_start = c.is_anchored_at_start-anchored_at_start.ensures.begins;
         literal = c.in_ok-literal.ensures.literal;
         first_bytes = λ x lt e. absurd (false≢true (sym e));
         required = c.in_ok-required.ensures.required;
