@@ -1,12 +1,13 @@
 -- The next piece of a text, from a place on where one may begin.
-use Rattle.std.proofs.Common.{◌≡◌, ℕ, ◌+◌, ◌-◌, ◌<◌, ◌≤◌, Bool, List, [], ◌∷◌, length, take, drop, get_or, Some, None, refl, sym, ◌∙◌, ap, arith}
+use Rattle.std.proofs.Common.{◌≡◌, ℕ, ◌+◌, ◌-◌, ◌<◌, ◌≤◌, Bool, List, [], ◌∷◌, length, take, drop, get_or, Some, None, eqb, false, refl, sym, ◌∙◌, ap, subst, arith, inl, inr}
 use Rattle.std.specs.Prelude.{slice_range}
-use Rattle.std.proofs.lemmas.Bool.{cond-true, cond-false, lt-ltb, le-ltb}
+use Rattle.std.proofs.lemmas.Bool.{cases_lt, cond-true, cond-false, eq-eqb, false≢true, lt-ltb, le-ltb}
 use Rattle.std.proofs.lemmas.List.{at_drop_more, drop_all, take_rest}
 use Rattle.awk_ere.specs.definitions.Tree.{Tree}
 use Rattle.awk_ere.specs.definitions.Desugared.{IsOrdered}
 use Rattle.awk_text.specs.definitions.Pieces.{blank_pieces}
-use Rattle.awk_text.specs.support.Stretch.{IsStretchEnd}
+use Rattle.awk_text.specs.support.Stretch.{IsStretchEnd, is_kind_at}
+use Rattle.awk_text.specs.support.MarksLeft.{IsNextPlace}
 use Rattle.awk_text.specs.declared.span.Span.{Span}
 use Rattle.awk_text.proofs.NextPiece.{split_from-within, split_from-past, split_from-stretch}
 use Rattle.awk_text.specs.definitions.Separators.{Separator, blanks, byte, each, ere, or_newline, IsNextSeparator}
@@ -20,6 +21,17 @@ pub next_kind_piece : (test : ℕ → Bool) (text : List ℕ) (from end : ℕ) �
 next_kind_piece test [] from end lt is = absurd (omega arith)
 next_kind_piece test (first ∷ text) from end lt is =
     split_from-within test (first ∷ text) from (omega (arith, is.high, is.within)) ∙ split_from-stretch test (first ∷ text) from end is
+
+-- the same, where the next place of such a byte was found
+pub next_kind_field : (kind : ℕ → Bool) (text : List ℕ) (rest start end : ℕ) → eqb (length text) 0 ≡ false → start ≡ rest → IsNextPlace (is_kind_at kind text) (length text) start end →
+    kind_pieces_from kind text rest ≡ slice_range text start end ∷ kind_pieces_from kind text (end + 1)
+next_kind_field kind text rest start end some here is =
+    let less : 0 < length text = elim (cases_lt 0 (length text)) [
+      | inl lt ↦ lt
+      | inr le ↦ absurd (false≢true (sym some ∙ eq-eqb (length text) 0 (omega arith)))
+    ] in
+    subst (λ k. kind_pieces_from kind text k ≡ slice_range text start end ∷ kind_pieces_from kind text (end + 1)) here
+    (next_kind_piece kind text start end less (record { high = is.high; within = is.within; none = is.none; stops = is.stops }))
 
 pub no_kind_piece : (test : ℕ → Bool) (text : List ℕ) (from : ℕ) → length text < from → kind_pieces_from test text from ≡ []
 no_kind_piece test [] from lt = refl

@@ -1,11 +1,10 @@
 -- The next piece of a text, from a place on where one may begin.
-use Rattle.std.proofs.Common.{◌≡◌, ℕ, zero, suc, Some, None, ◌+◌, ◌-◌, ◌<◌, ◌≤◌, Bool, true, false, List, [], ◌∷◌, length, take, drop, get_or, refl, sym, ◌∙◌, ap, arith, inl, inr}
+use Rattle.std.proofs.Common.{◌≡◌, ℕ, zero, suc, ◌+◌, ◌-◌, ◌<◌, ◌≤◌, Bool, true, false, List, [], ◌∷◌, length, take, drop, get_or, refl, sym, ◌∙◌, ap, arith, inl, inr}
 use Rattle.std.specs.Prelude.{slice_range}
 use Rattle.std.specs.List.{filter, slice_split, onto_first}
 use Rattle.std.proofs.lemmas.Bool.{cases_lt, cond-true, cond-false, lt-ltb, le-ltb, false≢true}
 use Rattle.std.proofs.lemmas.List.{drop_all, get_or-drop, length-drop, length-take-le, drop-drop, take_rest}
 use Rattle.std.proofs.lemmas.List.Splits.{slice_split-cons_yes, slice_split-cons_no}
-use Rattle.memchr.specs.Find.{IsFirstByte}
 use Rattle.awk_text.specs.definitions.Pieces.{is_blank_or_newline, is_full, blank_pieces}
 use Rattle.awk_text.specs.definitions.Fields.{split_from}
 use Rattle.awk_text.specs.support.Stretch.{IsStretchEnd}
@@ -91,35 +90,3 @@ next_blank_piece text from start end skipped lt fails is =
     skipped
     ∙ (ap (filter is_full) (split_from-stretch is_blank_or_newline text start end is)
     ∙ (cond-true _ _ _ full ∙ ap (λ pieces. slice_range text start end ∷ pieces) (blank_pieces-from text (end + 1))))
-
-not_true : (b : Bool) → (b ≡ true → ⊥) → b ≡ false
-not_true true bad = absurd (bad refl)
-not_true false bad = refl
-
--- a search from a place on finds the end of the stretch
-pub stretch_end-found : (test : ℕ → Bool) (text : List ℕ) (from len : ℕ) → from ≤ length text → IsFirstByte test (drop from text) (Some len) → IsStretchEnd test text from (from + len)
-stretch_end-found test text from len le (first, holds) =
-    let size : length (drop from text) ≡ length text - from = length-drop from text in
-    let lt : len < length (drop from text) = first.high in
-    record {
-      high = omega arith;
-      within = omega arith;
-      none = λ k low less.
-          let place : from + (k - from) ≡ k = omega arith in
-          sym (ap test (get_or-drop from text (k - from) 0 ∙ ap (λ i. get_or text i 0) place))
-          ∙ not_true (test (get_or (drop from text) (k - from) 0)) (first.before (k - from) (omega arith) (omega arith));
-      stops = λ _. sym (ap test (get_or-drop from text len 0)) ∙ holds;
-    }
-
-pub stretch_end-none : (test : ℕ → Bool) (text : List ℕ) (from : ℕ) → from ≤ length text → IsFirstByte test (drop from text) None → IsStretchEnd test text from (length text)
-stretch_end-none test text from le none =
-    let size : length (drop from text) ≡ length text - from = length-drop from text in
-    record {
-      high = le;
-      within = omega arith;
-      none = λ k low less.
-          let place : from + (k - from) ≡ k = omega arith in
-          sym (ap test (get_or-drop from text (k - from) 0 ∙ ap (λ i. get_or text i 0) place))
-          ∙ not_true (test (get_or (drop from text) (k - from) 0)) (none (k - from) (omega arith) (omega arith));
-      stops = λ lt. absurd (omega arith);
-    }

@@ -1,5 +1,6 @@
 -- What serves the proofs.
 pub mod Stretch
+pub mod MarksLeft
 pub mod ChosenSeparators
 pub mod Faults
 pub mod Splitters

@@ -19,6 +19,7 @@ mod field;
 mod field_separator;
 mod format_fault;
 mod functions;
+mod marks;
 mod matcher;
 mod matching;
 mod part;

@@ -1,15 +1,15 @@
 // A regular expression that separates, with the memory of its searches.
-ghost use Rattle.std.specs.Prelude.{◌≡◌, ◌<◌, ◌⊎◌, ◌++◌, length, IfSome, IfOk, IfErr};
+ghost use Rattle.std.specs.Prelude.{◌≡◌, ◌<◌, ◌⊎◌, ◌++◌, length, IfOk, IfErr};
 ghost use Rattle.awk_ere.specs.definitions.Means.{Means};
 ghost use Rattle.awk_ere.specs.support.Table.{IsFor};
 ghost use Rattle.awk_ere.specs.definitions.Tree.{Tree};
-ghost use Rattle.awk_text.specs.definitions.Fields.{ere_pieces_from, IsNextPiece, IsFurther};
+ghost use Rattle.awk_text.specs.definitions.Fields.{ere_pieces_from};
 ghost use Rattle.awk_text.specs.definitions.Pieces.{stretches_at, AreSpansOf};
 ghost use Rattle.awk_text.specs.definitions.Separators.{or_newline};
 
-use crate::between::{find_between, next_between};
-use crate::{FoundField, Span, TextFault};
-use awk_ere::{Failures, Pattern, Scratch};
+use crate::between::find_between;
+use crate::{Span, TextFault};
+use awk_ere::{Pattern, Scratch};
 use std::alloc::Global;
 
 // The pattern, with a newline as one more branch where newlines separate too.
@@ -41,18 +41,6 @@ impl Matcher {
         let pattern = with_newline(alloc, pattern, newline_too)?;
         let scratch = Scratch::for_pattern(alloc, &pattern).map_err(|_| TextFault::Memory)?;
         Ok(Matcher { pattern, scratch })
-    }
-
-    /// The next field from a place on.
-    #[inline(always)]
-    pub fn next_field(&mut self, text: &[u8], from: usize) -> Option<FoundField>
-        ensures piece { (t : Tree) → Means t self.old.pattern →
-            IsNextPiece (ere_pieces_from t text.now) text.now from result }
-        ensures further { IfSome result (IsFurther text.now from) }
-        ensures same { self.new.pattern ≡ self.old.pattern }
-    {
-        let mut failures = Failures::for_one_search(&self.pattern);
-        next_between(&self.pattern, &mut self.scratch, &mut failures, text, from)
     }
 
     /// Finds on until there is a field at this index, or all are found (`find_between`).

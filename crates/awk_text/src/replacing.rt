@@ -1,6 +1,7 @@
 // Writes a text with its matches replaced, in one pass over the text.
-ghost use Rattle.std.specs.Prelude.{◌≡◌, ◌++◌, true, slice_range, OnOk, IfOk, IfErr};
+ghost use Rattle.std.specs.Prelude.{◌≡◌, ◌++◌, [], true, slice_range, OnOk, IfOk, IfErr};
 ghost use Rattle.awk_ere.specs.definitions.Means.{Means};
+ghost use Rattle.awk_ere.specs.support.Found.{IsOneByte};
 ghost use Rattle.awk_ere.specs.support.Table.{IsFor};
 ghost use Rattle.awk_ere.specs.definitions.Tree.{Tree};
 ghost use Rattle.awk_text.specs.definitions.Pieces.{stretch_at};
@@ -14,6 +15,7 @@ use crate::replacement::{Shape, add_piece, add_replacement, shape_of};
 use crate::substitution::Substitution;
 use crate::{Span, TextFault};
 use awk_ere::{Failures, Pattern, Scratch};
+use memchr::memchr;
 use std::alloc::Global;
 
 // Adds what stands from a place up to a match, and what replaces the match.
@@ -45,6 +47,41 @@ fn add_replaced(
     }
 }
 
+// The same where each place of a byte is replaced, which is all that the pattern matches.
+fn replace_byte(
+    byte: u8,
+    replacement: &[u8],
+    text: &[u8],
+    out: &mut Vec<u8>,
+) -> Result<Option<u64>, TextFault>
+    requires { out.old.items ≡ [] }
+    ensures replaced { (t : Tree) → IsOneByte t byte →
+        IfOk result (λ count. Replaces t replacement.now text.now true count out.new.items) }
+    ensures memory { IfErr result (λ e. e ≡ TextFault.Memory) }
+{
+    let Some(first) = memchr(byte, text) else {
+        return Ok(None);
+    };
+    out.reserve(text.len().saturating_add(replacement.len()))?;
+    let shape = shape_of(replacement);
+    let mut count = 0;
+    let mut place = 0;
+    let mut next = Some(first);
+    while let Some(len) = next {
+        let start = place + len;
+        let found = Span {
+            start,
+            end: start + 1,
+        };
+        add_replaced(out, replacement, shape, text, place, found)?;
+        count += 1;
+        place = start + 1;
+        next = memchr(byte, &text[place..]);
+    }
+    out.extend_from_slice(&text[place..])?;
+    Ok(Some(count))
+}
+
 /// Writes into `out` the text with its first match replaced, or with `all` each match, and answers how many that
 /// are; where nothing matches it answers nothing, and `out` is empty. What `out` held before is gone, also on an
 /// `Err`, which is `Memory` alone.
@@ -67,6 +104,9 @@ pub fn substitute_into(
     ensures same { IsFor scratch.new pattern.now }
 {
     out.clear();
+    if all && let Some(byte) = pattern.literal_byte(scratch) {
+        return replace_byte(byte, replacement, text, out);
+    }
     let mut failures = Failures::for_pattern(pattern);
     let Some(first) = first_match(pattern, text, scratch, &mut failures) else {
         return Ok(None);

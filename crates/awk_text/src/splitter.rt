@@ -1,56 +1,49 @@
 // A separator that is ready to split texts, and the next field by it.
 ghost use Rattle.std.specs.Prelude.{◌≡◌, ◌≤◌, ◌<◌, ◌⊎◌, ◌++◌, length, IfSome, IfOk, IfErr, OnOk};
-ghost use Rattle.memchr.specs.Find.{IsFirstByte};
-ghost use Rattle.awk_text.specs.support.Stretch.{IsStretchEnd};
 ghost use Rattle.awk_text.specs.definitions.Pieces.{stretches_at, AreSpansOf};
 ghost use Rattle.awk_text.specs.definitions.Separators.{Separator as SeparatorSpec, IsSeparator};
-ghost use Rattle.awk_text.specs.definitions.Separators.{byte as at_byte, each};
-ghost use Rattle.awk_text.specs.definitions.Fields.{separates, is_field as field_test, pieces_of, pieces_from};
+ghost use Rattle.awk_text.specs.definitions.Separators.{each};
+ghost use Rattle.awk_text.specs.definitions.Fields.{is_field as field_test, kind_pieces_from, pieces_of, pieces_from};
 ghost use Rattle.awk_text.specs.definitions.Fields.{IsNextPiece, IsFurther};
 
-use crate::blanks::next_between_blanks;
+use crate::blanks::find_between_blanks;
+use crate::marks::{ByteMarks, LineMarks, Marks, Separates};
 use crate::matcher::Matcher;
 use crate::{FoundField, Separator, Span, TextFault};
-use memchr::{memchr, memchr2};
 use std::alloc::Global;
 
-// The first place where a byte stands, or a newline too.
+/// Adds to `spans` the fields from `rest` on that end at a byte that separates, until there is one at this index, or all are found.
+/// The fields that aren't found yet are then those from `rest` on. The only error is `Memory`.
 #[inline(always)]
-fn first_separator(text: &[u8], byte: u8, newline_too: bool) -> Option<usize>
-    ensures { IsFirstByte (separates byte newline_too) text.now result }
+fn find_at_bytes<S: Separates>(
+    separates: &S,
+    text: &[u8],
+    index: usize,
+    spans: &mut Vec<Span>,
+    rest: &mut usize,
+) -> Result<(), TextFault>
+    ensures pieces { stretches_at text.now spans.new.items ++ kind_pieces_from (S.separates separates.now) text.now rest.new
+        ≡ stretches_at text.now spans.old.items ++ kind_pieces_from (S.separates separates.now) text.now rest.old }
+    ensures within { AreSpansOf text.now spans.old.items → AreSpansOf text.now spans.new.items }
+    ensures found { IfOk result (λ _. (index < length spans.new.items) ⊎ (length text.now < rest.new)) }
+    ensures memory { IfErr result (λ e. e ≡ TextFault.Memory) }
 {
-    if newline_too {
-        memchr2(byte, b'\n', text)
-    } else {
-        memchr(byte, text)
+    let mut start = *rest;
+    if text.is_empty() || start > text.len() {
+        *rest = text.len() + 1;
+        return Ok(());
     }
-}
-
-// The first such place from here on, or the end.
-#[inline(always)]
-fn end_before_separator(text: &[u8], byte: u8, newline_too: bool, from: usize) -> usize
-    requires { from ≤ length text.now }
-    ensures { IsStretchEnd (separates byte newline_too) text.now from result }
-{
-    match first_separator(&text[from..], byte, newline_too) {
-        Some(len) => from + len,
-        None => text.len(),
+    let mut marks = Marks::behind(start);
+    while spans.len() <= index {
+        let end = marks.next(separates, text);
+        spans.push(Span { start, end })?;
+        *rest = end + 1;
+        if end == text.len() {
+            return Ok(());
+        }
+        start = end + 1;
     }
-}
-
-#[inline(always)]
-fn next_at_byte(text: &[u8], byte: u8, newline_too: bool, from: usize) -> Option<FoundField>
-    ensures piece { IsNextPiece (pieces_from (at_byte byte) newline_too text.now) text.now from result }
-    ensures further { IfSome result (IsFurther text.now from) }
-{
-    if text.is_empty() || from > text.len() {
-        return None;
-    }
-    let end = end_before_separator(text, byte, newline_too, from);
-    Some(FoundField {
-        span: Span { start: from, end },
-        rest: end + 1,
-    })
+    Ok(())
 }
 
 // Whether a byte is a field where each one is, but newlines where they separate.
@@ -75,6 +68,36 @@ fn next_each(text: &[u8], newline_too: bool, from: usize) -> Option<FoundField>
         }
     }
     None
+}
+
+// Finds on until there is a field at this index, or all are found, where each byte is one.
+#[inline(never)]
+fn find_each(
+    text: &[u8],
+    newline_too: bool,
+    index: usize,
+    spans: &mut Vec<Span>,
+    rest: &mut usize,
+) -> Result<(), TextFault>
+    ensures pieces { stretches_at text.now spans.new.items ++ pieces_from each newline_too text.now rest.new
+        ≡ stretches_at text.now spans.old.items ++ pieces_from each newline_too text.now rest.old }
+    ensures within { AreSpansOf text.now spans.old.items → AreSpansOf text.now spans.new.items }
+    ensures found { IfOk result (λ _. (index < length spans.new.items) ⊎ (length text.now < rest.new)) }
+    ensures memory { IfErr result (λ e. e ≡ TextFault.Memory) }
+{
+    while spans.len() <= index {
+        match next_each(text, newline_too, *rest) {
+            Some(found) => {
+                spans.push(found.span)?;
+                *rest = found.rest;
+            }
+            None => {
+                *rest = text.len() + 1;
+                return Ok(());
+            }
+        }
+    }
+    Ok(())
 }
 
 /// A separator, made ready to split texts.
@@ -106,22 +129,6 @@ impl Splitter {
         }
     }
 
-    /// The next field from a place on.
-    #[inline(always)]
-    pub fn next_field(&mut self, text: &[u8], newline_too: bool, from: usize) -> Option<FoundField>
-        ensures piece { (s : SeparatorSpec) → Stands s newline_too self.old →
-            IsNextPiece (pieces_from s newline_too text.now) text.now from result }
-        ensures further { IfSome result (IsFurther text.now from) }
-        ensures same { (s : SeparatorSpec) → Stands s newline_too self.old → Stands s newline_too self.new }
-    {
-        match self {
-            Splitter::Blanks => next_between_blanks(text, from),
-            Splitter::Byte(byte) => next_at_byte(text, *byte, newline_too, from),
-            Splitter::Each => next_each(text, newline_too, from),
-            Splitter::Ere(matcher) => matcher.next_field(text, from),
-        }
-    }
-
     /// Adds to `spans` the fields from `rest` on, where one may begin, until there is one at this index, or all are found.
     /// The fields that aren't found yet are then those from `rest` on. The only error is `Memory`.
     #[inline(always)]
@@ -141,22 +148,15 @@ impl Splitter {
         ensures memory { IfErr result (λ e. e ≡ TextFault.Memory) }
         ensures same { (s : SeparatorSpec) → Stands s newline_too self.old → Stands s newline_too self.new }
     {
-        if let Splitter::Ere(matcher) = self {
-            return matcher.find_fields(text, index, spans, rest);
-        }
-        while spans.len() <= index {
-            match self.next_field(text, newline_too, *rest) {
-                Some(found) => {
-                    spans.push(found.span)?;
-                    *rest = found.rest;
-                }
-                None => {
-                    *rest = text.len() + 1;
-                    return Ok(());
-                }
+        match self {
+            Splitter::Blanks => find_between_blanks(text, index, spans, rest),
+            Splitter::Byte(byte) if newline_too => {
+                find_at_bytes(&LineMarks(*byte), text, index, spans, rest)
             }
+            Splitter::Byte(byte) => find_at_bytes(&ByteMarks(*byte), text, index, spans, rest),
+            Splitter::Each => find_each(text, newline_too, index, spans, rest),
+            Splitter::Ere(matcher) => matcher.find_fields(text, index, spans, rest),
         }
-        Ok(())
     }
 
     /// Fills `spans` with the fields of the text. The only error is `Memory`.
@@ -173,11 +173,7 @@ impl Splitter {
         ensures same { (s : SeparatorSpec) → Stands s newline_too self.old → Stands s newline_too self.new }
     {
         spans.clear();
-        let mut from = 0;
-        while let Some(found) = self.next_field(text, newline_too, from) {
-            spans.push(found.span)?;
-            from = found.rest;
-        }
-        Ok(())
+        let mut rest = 0;
+        self.find_fields(text, newline_too, usize::MAX, spans, &mut rest)
     }
 }
