@@ -1,27 +1,32 @@
 -- Fields that are assigned, and what they make of the record.
-use Rattle.std.proofs.Common.{◌≡◌, ℕ, zero, suc, ℤ, ◌+◌, ◌-◌, ◌<◌, min, max, List, [], ◌∷◌, ◌++◌, length, take, drop, get_or, replicate, Result, Ok, refl, sym, ◌∙◌, ap, arith, inl, inr}
+use Rattle.std.proofs.Common.{◌≡◌, ℕ, zero, suc, ℤ, ◌+◌, ◌-◌, ◌<◌, min, max, List, [], ◌∷◌, ◌++◌, length, take, get_or, replicate, Result, Ok, refl, sym, ◌∙◌, ap, arith, inl, inr}
 use Rattle.std.specs.Prelude.{slice_set}
 use Rattle.std.specs.List.{AllClonesOf, AppendsClonesOf}
+use Rattle.std.proofs.Math.Seq.{set-append_seam}
 use Rattle.std.proofs.lemmas.List.{take_more, map-append, length-append, length-take}
-use Rattle.awk_text.specs.Pieces.{stretch_at, stretches_at, IsSpanOf, AreSpansOf}
+use Rattle.awk_text.specs.Pieces.{stretch_at, stretches_at}
 use Rattle.awk_text.specs.declared.span.Span.{Span}
 use Rattle.awk_value.specs.declared.value.Value.{Value}
 use Rattle.awk_value.specs.declared.value.Value.TheVariants.{Nothing, Input}
 use Rattle.awk_record.specs.declared.record_fault.RecordFault.{RecordFault}
 use Rattle.awk_record.specs.definitions.Record.{RecordPair, inputs_of, assignable, resized, joined_by, with_count, with_field}
-use Rattle.awk_record.proofs.FieldOfPieces.{cut_stretch}
 
--- a list of cuts grows by the next stretch
-pub cuts_more : (text : List ℕ) (spans : List Span) (i : ℕ) (values new : List Value) (cut : List ℕ) (span : Span) → AreSpansOf text spans → i < length spans → IsSpanOf text (get_or spans i span) →
-    values ≡ inputs_of (stretches_at text (take i spans)) → new ≡ values ++ Input cut ∷ [] → cut ≡ drop (get_or spans i span).start (take (get_or spans i span).end text) →
-    new ≡ inputs_of (stretches_at text (take (i + 1) spans))
-cuts_more text spans i values new cut span all lt within is added cutting =
+-- a list of cuts grows by the next stretch, which is put in the place of what was pushed
+pub cuts_more : (text : List ℕ) (spans : List Span) (i : ℕ) (values pushed : List Value) (size : ℕ) (blank place : Value) (span : Span) → i < length spans →
+    values ≡ inputs_of (stretches_at text (take i spans)) → pushed ≡ values ++ blank ∷ [] → size ≡ length pushed → place ≡ Input (stretch_at text (get_or spans i span)) →
+    slice_set pushed (size - 1) place ≡ inputs_of (stretches_at text (take (i + 1) spans))
+cuts_more text spans i values pushed size blank place span lt is added long cut =
     let here = get_or spans i span in
     let more : take (i + 1) spans ≡ take i spans ++ here ∷ [] = take_more spans i span lt in
-    let last : cut ≡ stretch_at text here = cutting ∙ cut_stretch text here within in
-    added ∙ (ap (λ (vs : List Value). vs ++ Input cut ∷ []) is ∙ (ap (λ (t : List ℕ). inputs_of (stretches_at text (take i spans)) ++ Input t ∷ []) last
+    let one : length pushed ≡ length values + 1 = ap length added ∙ length-append values (blank ∷ []) in
+    let last : size - 1 ≡ length values = omega arith in
+    ap (λ k. slice_set pushed k place) last
+    ∙ (ap (λ (vs : List Value). slice_set vs (length values) place) added
+    ∙ (set-append_seam values blank [] place
+    ∙ (ap (λ (v : Value). values ++ v ∷ []) cut
+    ∙ (ap (λ (vs : List Value). vs ++ Input (stretch_at text here) ∷ []) is
     ∙ (sym (map-append (λ (t : List ℕ). Input t) (stretches_at text (take i spans)) (stretch_at text here ∷ []))
-    ∙ (ap inputs_of (sym (map-append (stretch_at text) (take i spans) (here ∷ []))) ∙ ap (λ (spans : List Span). inputs_of (stretches_at text spans)) (sym more)))))
+    ∙ (ap inputs_of (sym (map-append (stretch_at text) (take i spans) (here ∷ []))) ∙ ap (λ (spans : List Span). inputs_of (stretches_at text spans)) (sym more)))))))
 
 pub count_is : (number : ℤ) (n : ℕ) (separator : List ℕ) (r : RecordPair) (values : List Value) → Ok n ≡ assignable number → values ≡ resized n r.fields → Ok (joined_by separator values) ≡ with_count (assignable number) separator r
 count_is number n separator r values is made =

@@ -1,7 +1,7 @@
 // Fields that were assigned, as values, and the text that they make.
-ghost use Rattle.std.specs.Prelude.{◌≡◌, ◌<◌, ◌-◌, ◌++◌, max, length, slice_set, OnOk, OnErr, IfOk, IfErr};
+ghost use Rattle.std.specs.Prelude.{◌≡◌, true, ◌<◌, ◌-◌, ◌++◌, max, length, slice_set, OnOk, OnErr, IfOk, IfErr};
 ghost use Rattle.awk_value.specs.Values.{str_of};
-ghost use Rattle.awk_text.specs.Pieces.{stretches_at, AreSpansOf};
+ghost use Rattle.awk_text.specs.Pieces.{stretches_at, stretch_at, AreSpansOf, IsSpanOf};
 ghost use Rattle.awk_record.specs.definitions.Record.{assignable, inputs_of, joined, joined_behind, resized};
 
 use crate::record_fault::RecordFault;
@@ -31,9 +31,25 @@ pub fn cut_all(text: &Bytes, spans: &[Span], values: &mut Vec<Value>) -> Result<
 {
     values.clear();
     for span in spans {
-        values.push(Value::Input(text.cut(span.start, span.end)?))?;
+        values.push(Value::Input(Bytes::empty()))?;
+        let last = values.len() - 1;
+        if !cut_in(text, *span, &mut values[last]) {
+            return Err(RecordFault::Memory);
+        }
     }
     Ok(())
+}
+
+/// Makes a text from outside the stretch of a text, where it stands: whether it could.
+#[inline(always)]
+fn cut_in(text: &Bytes, span: Span, place: &mut Value) -> bool
+    requires { IsSpanOf text.now span }
+    ensures { result ≡ true → place.new ≡ Value.Input (stretch_at text.now span) }
+{
+    match place {
+        Value::Input(place) => text.cut_to(span.start, span.end, place),
+        _ => false,
+    }
 }
 
 /// Cuts the values off behind so many, or adds `Nothing` up to there. The only
@@ -67,6 +83,11 @@ fn append_value(value: &Value, text: &mut Vec<u8>) -> Result<(), RecordFault>
     ensures text { OnOk result (text.new.items ≡ text.old.items ++ str_of value.now) }
     ensures memory { IfErr result (λ e. e ≡ RecordFault.Memory) }
 {
+    if let Value::Text(short) | Value::Input(short) = value
+        && short.put_within(text, usize::MAX)
+    {
+        return Ok(());
+    }
     append_text(value, text).map_err(|_| RecordFault::Memory)
 }
 
@@ -96,9 +117,12 @@ fn append_behind(values: &[Value], separator: &[u8], text: &mut Vec<u8>) -> Resu
     Ok(())
 }
 
+// A short text is copied by a fixed size, where there is so much room.
+const FIXED: usize = 16;
+
 // Room for the texts of values with a separator of this length between them; most of those that are written are short.
 fn room_for(values: &[Value], separator_len: usize) -> usize {
-    let mut room: usize = 0;
+    let mut room: usize = FIXED;
     for value in values {
         let length = match value {
             Value::Nothing => 0,

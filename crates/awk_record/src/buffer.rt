@@ -6,9 +6,9 @@ ghost use Rattle.awk_record.specs.support.Boundary.{end_if, ending_or_break};
 
 use crate::boundary::{Boundary, LONGEST, first_boundary};
 use crate::buffer_fault::BufferFault;
+use crate::lanes::first_place;
 use crate::separator_search::{Progress, ResumedSearch};
 use awk_value::Bytes;
-use memchr::memchr;
 use std::alloc::Global;
 use std::marker::Model;
 use std::mem;
@@ -61,6 +61,8 @@ pub struct RecordBuffer {
     held: Bytes,
     // how many bytes were held since they were last moved, those that were taken counted in
     reached: usize,
+    // how many bytes came last
+    came: usize,
     supply: Supply,
     search: ResumedSearch,
     // memory that was read into before, and can be anew once nothing shares it
@@ -90,6 +92,7 @@ impl RecordBuffer {
             alloc,
             held: Bytes::empty(),
             reached: 0,
+            came: 0,
             supply: Supply::Open,
             search: ResumedSearch::new(alloc),
             spare: None,
@@ -126,6 +129,12 @@ impl RecordBuffer {
         ensures err { OnErr result (self.new ≡ self.old) }
         ensures memory { IfErr result (λ e. e ≡ BufferFault.Memory) }
     {
+        self.came = piece.len();
+        if self.held.is_empty() {
+            self.held = Bytes::from_slice(self.alloc, piece)?;
+            self.reached = piece.len();
+            return Ok(());
+        }
         self.drop_taken();
         self.held.extend_from_slice(self.alloc, piece)?;
         self.reached = self.reached.saturating_add(piece.len());
@@ -155,8 +164,8 @@ impl RecordBuffer {
     }
 
     /// Memory to read the next bytes into, and how many bytes stand in front of it: those at hand. Behind them is room for
-    /// at least so many. Nothing where more bytes are at hand than are worth moving: the next ones are fed. The only error
-    /// is `Memory`.
+    /// at least so many. Nothing where more bytes are at hand than are worth moving, or where few bytes or none came last:
+    /// the next ones are fed. The only error is `Memory`.
     pub fn lend_memory(&mut self, room: usize) -> Result<Option<(Vec<u8>, usize)>, BufferFault>
         requires { room ≤ longest }
         ensures front { IfOk result (λ lent. IfSome lent (λ m. take m.1 m.0.items ≡ self.old.bytes)) }
@@ -166,7 +175,7 @@ impl RecordBuffer {
         ensures memory { IfErr result (λ e. e ≡ BufferFault.Memory) }
     {
         let left = self.held.len();
-        if left > MOST_MOVED {
+        if left > MOST_MOVED || self.came < room / 2 {
             return Ok(None);
         }
         let mut memory = self.reading_memory(MOST_MOVED + room)?;
@@ -203,6 +212,7 @@ impl RecordBuffer {
         ensures memory { IfErr result (λ e. e ≡ BufferFault.Memory) }
     {
         let held = Bytes::from_part(self.alloc, memory, end)?;
+        self.came = end - self.held.len();
         self.spare = Some(mem::replace(&mut self.held, held));
         self.reached = end;
         Ok(())
@@ -242,11 +252,11 @@ impl RecordBuffer {
         if self.search.is_begun() {
             return None;
         }
-        let to = memchr(separator, self.held.as_slice())?;
+        let to = first_place(separator, self.held.as_slice())?;
         if to >= LONGEST {
             return None;
         }
-        let Ok(record) = self.held.cut(0, to) else {
+        let Ok(record) = self.held.part(0, to) else {
             return None;
         };
         self.held.advance(to + 1);
@@ -267,7 +277,7 @@ impl RecordBuffer {
         let progress = self.search.progress_for(separator);
         match first_boundary(separator, held, progress, at_end(self.supply)) {
             Boundary::Stretch { from, to, next } => {
-                let record = self.held.cut(from, to)?;
+                let record = self.held.part(from, to)?;
                 self.held.advance(next);
                 self.search.forget();
                 Ok(Step::Record(record))

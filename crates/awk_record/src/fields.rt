@@ -125,7 +125,7 @@ impl Fields {
     /// The field at this index, from 0 on, if there is one. The only error is
     /// `Memory`.
     #[inline(always)]
-    pub fn at(&mut self, text: &[u8], index: usize) -> Result<Option<Span>, RecordFault>
+    pub fn at(&mut self, text: &Bytes, index: usize) -> Result<Option<Span>, RecordFault>
         requires { AreFieldsOf text.now self.old }
         ensures fields { AreFieldsOf text.now self.new }
         ensures separator { self.new.separator ≡ self.old.separator }
@@ -138,7 +138,8 @@ impl Fields {
         if let Some(span) = span_at(self.spans.as_slice(), index) {
             return Ok(Some(span));
         }
-        self.find(text, index)?;
+        let bytes = text.as_slice();
+        self.find(bytes, index)?;
         Ok(span_at(self.spans.as_slice(), index))
     }
 

@@ -12,6 +12,7 @@ mod boundary;
 mod buffer;
 mod buffer_fault;
 mod fields;
+mod lanes;
 mod record;
 mod record_fault;
 mod separator_search;

@@ -1,12 +1,12 @@
 // The record at hand, with its fields.
-ghost use Rattle.std.specs.Prelude.{◌≡◌, ◌≢◌, ℕ, true, suc, pos, ◌<ℤ◌, ◌≤ℤ◌, min, [], length, slice_get};
+ghost use Rattle.std.specs.Prelude.{◌≡◌, ◌≢◌, ℕ, true, false, suc, pos, ◌<ℤ◌, ◌≤ℤ◌, min, [], length, slice_get};
 ghost use Rattle.std.specs.Prelude.{unwrap_or, IfSome, OnOk, OnErr, IfOk, IfErr, Ok, Err, None, List};
 ghost use Rattle.std.specs.Result.{is_err};
 ghost use Rattle.awk_text.specs.Separators.{separator_of};
 ghost use Rattle.awk_text.specs.Pieces.{stretch_at, IsSpanOf};
 ghost use Rattle.awk_text.specs.Fields.{pieces_by};
 ghost use Rattle.awk_record.specs.support.Found.{AreFieldsOf};
-ghost use Rattle.awk_record.specs.definitions.Record.{inputs_of};
+ghost use Rattle.awk_record.specs.definitions.Record.{inputs_of, joined};
 ghost use Rattle.awk_record.specs.support.Viewed.{pair_of};
 
 use crate::assigned::{assigned_number, join, resize, set_value};
@@ -41,7 +41,7 @@ fn cut_at(text: &Bytes, fields: &mut Fields, index: usize) -> Result<Value, Reco
         slice_get (inputs_of (pieces_by fields.old.separator text.now)) index ≡ None) }
     ensures memory { IfErr result (λ e. e ≡ RecordFault.Memory) }
 {
-    match fields.at(text.as_slice(), index)? {
+    match fields.at(text, index)? {
         Some(span) => Ok(Value::Input(text.cut(span.start, span.end)?)),
         None => Ok(Value::Nothing),
     }
@@ -207,6 +207,17 @@ impl Record {
         }
     }
 
+    /// The fields and what stands between them in the text, where that is still to be made of them.
+    #[inline(always)]
+    pub fn unjoined(&self) -> Option<(&[Value], &[u8])>
+        ensures { IfSome result (λ parts. self.now.text ≡ joined parts.1.now parts.0.now) }
+    {
+        match self.form {
+            Form::Assigned => Some((self.values.as_slice(), self.output_separator.as_slice())),
+            Form::Split | Form::Joined => None,
+        }
+    }
+
     /// How many fields the record has, where that is known without a search.
     #[inline(always)]
     pub fn known_count(&self) -> Option<usize>
@@ -244,10 +255,42 @@ impl Record {
         if number <= 0 {
             return None;
         }
-        let Ok(Some(span)) = self.fields.at(self.text.as_slice(), index_of(number)) else {
+        let Ok(Some(span)) = self.fields.at(&self.text, index_of(number)) else {
             return None;
         };
         Some(span)
+    }
+
+    /// The same, where field 0 is the whole text, unless that is still to be made of the fields.
+    #[inline(always)]
+    fn field_span(&mut self, number: i128) -> Option<Span>
+        ensures field { IfSome result (λ span. field_of self.old number ≡ Ok (Value.Input (stretch_at self.old.text span))) }
+        ensures within { IfSome result (IsSpanOf self.old.text) }
+        ensures same { self.new ≡ self.old }
+    {
+        if number == 0 {
+            let text = self.text_at_hand()?;
+            return Some(Span {
+                start: 0,
+                end: text.len(),
+            });
+        }
+        self.stretch(number)
+    }
+
+    /// The text of the field of this number, if it is a stretch of the record's text; field 0 is the whole. Nothing where memory is
+    /// refused.
+    #[inline(always)]
+    pub fn cut_field(&mut self, number: i128) -> Option<Bytes>
+        ensures field { IfSome result (λ text. field_of self.old number ≡ Ok (Value.Input text)) }
+        ensures same { self.new ≡ self.old }
+    {
+        let span = self.field_span(number)?;
+        let text = self.text_at_hand()?;
+        match text.cut(span.start, span.end) {
+            Ok(text) => Some(text),
+            Err(_) => None,
+        }
     }
 
     /// Field 0 is the whole text, a field past the last is `Nothing`, and a

@@ -1,4 +1,4 @@
-use Rattle.std.proofs.Common.{sym, ap, Option}
+use Rattle.std.proofs.Common.{refl, sym, ap, Option}
 use Rattle.std.specs.Prelude.{unwrap_or}
 use Rattle.awk_value.specs.declared.value.Value.{Value}
 use Rattle.awk_value.specs.declared.value.Value.TheVariants.{Nothing}
@@ -8,14 +8,14 @@ use Rattle.awk_record.proofs.record.cut_at.Goals as goal
 pub returns-in_ok-cut-in-Some-clause-value : goal.returns-in_ok-cut-in-Some-clause-value
 returns-in_ok-cut-in-Some-clause-value c =
     let found = c.in_ok-span.ensures in
-    cut_value c.args.text.now c.as_slice.result.now c.args.fields.now.separator c.args.index c.in_ok-span.field-0 c.in-Some.span c.in_ok-cut-in-Some.field-0
-    c.as_slice.ensures c.in-Some.is found.within found.value c.in_ok-cut-in-Some.ensures
+    cut_value c.args.text.now c.args.text.now c.args.fields.now.separator c.args.index c.in_ok-span.field-0 c.in-Some.span c.in_ok-cut-in-Some.field-0
+    refl c.in-Some.is found.within found.value c.in_ok-cut-in-Some.ensures
 
 pub returns-in-None-clause-value : goal.returns-in-None-clause-value
 returns-in-None-clause-value c =
-    let none = no_value c.args.text.now c.as_slice.result.now c.args.fields.now.separator c.args.index c.in_ok-span.field-0 c.as_slice.ensures c.in-None.is c.in_ok-span.ensures.value in
+    let none = no_value c.args.text.now c.args.text.now c.args.fields.now.separator c.args.index c.in_ok-span.field-0 refl c.in-None.is c.in_ok-span.ensures.value in
     ap (λ (o : Option Value). unwrap_or o Nothing) (sym none)
 
 pub returns-in-None-clause-none : goal.returns-in-None-clause-none
 returns-in-None-clause-none c = λ _.
-    no_value c.args.text.now c.as_slice.result.now c.args.fields.now.separator c.args.index c.in_ok-span.field-0 c.as_slice.ensures c.in-None.is c.in_ok-span.ensures.value
+    no_value c.args.text.now c.args.text.now c.args.fields.now.separator c.args.index c.in_ok-span.field-0 refl c.in-None.is c.in_ok-span.ensures.value

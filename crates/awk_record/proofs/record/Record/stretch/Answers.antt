@@ -1,4 +1,4 @@
-use Rattle.std.proofs.Common.{◌≡◌, pos, ◌<ℤ◌, ◌∙◌, sym, ap, arith}
+use Rattle.std.proofs.Common.{◌≡◌, refl, pos, ◌<ℤ◌, ◌∙◌, sym, ap, arith}
 use Rattle.std.proofs.lemmas.Int.{ints, to_z-of_z}
 use mir.Syntax.{w128}
 use Rattle.awk_record.specs.definitions.Record.{split_by}
@@ -17,5 +17,5 @@ returns-clause-field c =
     let view : split_by b.fields.separator b.text ≡ c.args.self.now =
     ap (λ (f : Form). pair_of f b.text b.fields.separator b.output_separator b.values.items) (sym c.in-Split.is) ∙ c.self.view_is in
     let found = c.in-Ok-Some.ensures in
-    stretch_found c.args.self.now b.fields.separator b.text c.as_slice.result.now 18446744073709551615 number index c.in-Ok-Some.field-0 c.in-Ok-Some.span view c.as_slice.ensures low at
+    stretch_found c.args.self.now b.fields.separator b.text b.text 18446744073709551615 number index c.in-Ok-Some.field-0 c.in-Ok-Some.span view refl low at
     c.in-Ok-Some.field-0-is found.value found.none
