@@ -1,6 +1,6 @@
 -- A record of the main input that is at hand: the world is as it was.
 use Rattle.std.proofs.Common.{◌≡◌, inl, ℕ, true, List, Option, Some, None, Ok, Err, refl, sym, ◌∙◌, ap, subst}
-use Rattle.std.specs.Prelude.{is_some, IfSome, IfNone}
+use Rattle.std.specs.Prelude.{is_some, IfSome, IfNone, ◌==◌}
 use Rattle.awk_record.specs.Buffer.{Pending, Steps}
 use Rattle.awk_record.specs.declared.buffer.Step.TheVariants.{Record, NeedMore}
 use Rattle.awk_record.specs.declared.buffer_fault.BufferFault.TheVariants.{Memory as BufferMemory}
@@ -9,7 +9,7 @@ use Rattle.awk_world.specs.definitions.Orderly.{IsReadable}
 use Rattle.awk_world.specs.definitions.WorldState.{WorldState}
 use Rattle.awk_streams.specs.declared.fault.StreamFault.TheVariants.{WriteFailed}
 use Rattle.awk_streams.specs.declared.input.Input.{Input}
-use Rattle.awk_streams.specs.definitions.Streams.{StreamsView, AreOpen, IsSoundMain, AreSound, IsSameMain}
+use Rattle.awk_streams.specs.definitions.Streams.{StreamsView, AreOpen, IsSoundMain, is_of_main, AreSound, IsSameMain}
 use Rattle.awk_streams.specs.definitions.MainInput.{AsksMain}
 use Rattle.awk_streams.specs.support.Asks.{Takes}
 use Rattle.awk_streams.proofs.GrowsLemmas.{Grows-self}
@@ -79,4 +79,5 @@ main_kept old s was new is main id ending world sound =
       once = h.once;
       few = h.few;
       flushed = h.flushed;
+      owned = λ j no_main no_named. h.owned j (ap (is_of_main j) main ∙ (ap (λ i. i == j) (sym id) ∙ no_main)) no_named;
     }

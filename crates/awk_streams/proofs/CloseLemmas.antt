@@ -17,13 +17,14 @@ use Rattle.awk_streams.specs.declared.input.Input.{Input}
 use Rattle.awk_streams.specs.declared.named.NamedStream.{NamedStream}
 use Rattle.awk_streams.specs.declared.named.NamedStream.TheVariants as named
 use Rattle.awk_streams.specs.definitions.Named as words
-use Rattle.awk_streams.specs.definitions.Streams.{StreamsView, number_of, name_of, numbered, IsOpenMain, AreOpenNamed, AreOthers, AreApart, IsApartFrom, AreOpen, held_in, held_of, printed_openings, is_output_among, IsSound, AreSoundNamed, HaveOtherNames, AreOnce, AreSound, StandsFor, StandFor}
+use Rattle.awk_streams.specs.definitions.Streams.{StreamsView, number_of, name_of, numbered, IsOpenMain, AreOpenNamed, AreOthers, AreApart, IsApartFrom, AreOpen, held_in, held_of, printed_openings, is_output_among, IsSound, AreSoundNamed, HaveOtherNames, AreOnce, is_of_named, AreSound, StandsFor, StandFor}
 use Rattle.awk_streams.specs.definitions.Commands.{closing_answer, ClosesStream}
 use Rattle.awk_streams.specs.support.Kept.{SameAt, SameFor}
 use Rattle.awk_streams.specs.support.Held.{AreEmpty, HoldsNothing}
 use Rattle.awk_streams.specs.support.Closes.{without_place, ClosesAt}
 use Rattle.awk_streams.proofs.GrowsLemmas.{grows_on}
 use Rattle.awk_streams.proofs.StreamsLemmas.{main_same, main_rest_same, sound_same, stand_same, same_for_others}
+use Rattle.awk_streams.proofs.OwnedLemmas.{closed_none, of_without}
 use Rattle.awk_streams.proofs.NamesLemmas.{named_swap}
 use Rattle.awk_streams.proofs.ViewLemmas.{nothing_held}
 use Rattle.awk_streams.proofs.MainLemmas.{closed_at, closed_known, closed_flushed}
@@ -241,6 +242,7 @@ close_sound before after s front back x n is open' h closes logs =
             (λ two. ap (λ l. is_output_among j (held_in l)) is ∙ among_without j front back x (λ (e : j ≡ id). differs (sym e)) two)) in
             closed_flushed id j n before.log (h.flushed j not_old)
       ];
+      owned = λ j no_main no_named. closed_none id j n before.log (λ other. h.owned j no_main (ap (is_of_named j) is ∙ of_without j front back x other no_named));
     }
 
 pub flushed_after : (os : List (ℕ × Opening)) (id : ℕ) (n : ℤ) (log : List Event) → AreFlushed os log → AreFlushed os (Closed id n ∷ log)

@@ -2,6 +2,7 @@
 use Rattle.std.proofs.Common.{◌≡◌, ℕ, ℤ, pos, Bool, true, false, List, [], ◌∷◌, ◌++◌, Option, Some, None, Result, Ok, Err, refl, sym, ◌∙◌, ap, subst}
 use Rattle.std.specs.Prelude.{is_some, not, OnOk, OnErr}
 use Rattle.awk_world.specs.definitions.Log.{Event, Wrote, Flushed, Closed}
+use Rattle.awk_world.specs.definitions.Oracle.{standing}
 use Rattle.awk_world.specs.definitions.WorldState.{WorldState}
 use Rattle.awk_world.specs.definitions.Writes.{with_events, GoesOn}
 use Rattle.awk_world.specs.definitions.Openings.{Opening, openings, in_order, outputs_of, AreFlushed, AreBrought, Begins}
@@ -122,8 +123,8 @@ err_same (Ok u) y z p q = tt
 err_same (Err e) y z p q = ap is_some q ∙ p
 
 pub finishes : (before mid later after : WorldState) (old s v new : StreamsView) (result : Result (Unit {0}) StreamFault) (answer : ℤ) → BringsAndCloses before old result after → BringsHeld before (held_of old) result mid (held_of s) → s.main ≡ old.main → all_unheld s.named ≡ all_unheld old.named → HoldsNothing s → OnOk result (AreFlushedBut [] mid.log) →
-    v ≡ record s { main = None } → EndsMain mid s later v → ClosesEach (all_names v.named) (pos 0) later v answer after new → Finishes before old result after new
-finishes before mid later after old s v new result answer each b main same empty flushed is ends closes =
+    v ≡ record s { main = None } → EndsMain mid s later v → ClosesEach (all_names v.named) (pos 0) later v answer after new → ((id : ℕ) → standing id after.log ≡ None) → Finishes before old result after new
+finishes before mid later after old s v new result answer each b main same empty flushed is ends closes none =
     let both = finishes_ends before mid later after old s v new result answer b main same empty flushed is ends closes in
     let later_failure : later.first_failure ≡ mid.first_failure = ends.no_failure in
     let last_failure : after.first_failure ≡ mid.first_failure = each_no_failure (all_names v.named) (pos 0) answer later after v new closes ∙ later_failure in
@@ -140,6 +141,7 @@ finishes before mid later after old s v new result answer each b main same empty
         failure = λ n none some. (b.touches.grows.met none n (sym last_failure ∙ some)).1;
       };
       each = each;
+      closed = none;
       ends = both.0;
       brought = both.1;
       begins = subst (λ l. Begins l (printed_openings before old)) (sym received) b.begins;

@@ -17,7 +17,7 @@ output_open world old s held is open' =
 pub output_sound : (world : WorldState) (old s : StreamsView) (held : List ℕ) → s ≡ old → AreSound world old → AreSound world record s { output = held }
 output_sound world old s held is sound =
     let h = subst (λ (v : StreamsView). AreSound world v) (sym is) sound in
-    record { order = h.order; main = h.main; named = h.named; once = h.once; few = h.few; flushed = h.flushed }
+    record { order = h.order; main = h.main; named = h.named; once = h.once; few = h.few; flushed = h.flushed; owned = h.owned }
 
 -- bytes that are held back behind what is held back are printed
 pub output_told : (world : WorldState) (old s : StreamsView) (held bytes : List ℕ) → s ≡ old → held ≡ old.output ++ bytes → AreOpen world old → AreSound world old → Prints target.StandardOutput bytes world old (Ok tt) world record s { output = held }

@@ -10,6 +10,7 @@ pub mod BufferedLemmas
 pub mod HeldLemmas
 pub mod LeavesLemmas
 pub mod StreamsLemmas
+pub mod OwnedLemmas
 pub mod BringLemmas
 pub mod NamedLemmas
 pub mod ViewLemmas

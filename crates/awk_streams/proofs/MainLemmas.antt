@@ -1,6 +1,6 @@
 -- What the calls for the main input tell.
 use Rattle.std.proofs.Common.{◌≡◌, ◌≢◌, ◌+◌, inl, inr, ℕ, ℤ, Bool, true, false, List, [], ◌∷◌, ◌++◌, Option, Some, None, Result, Ok, Err, refl, sym, ◌∙◌, ap, subst, arith}
-use Rattle.std.specs.Prelude.{is_some, IfErr}
+use Rattle.std.specs.Prelude.{is_some, IfErr, ◌==◌}
 use Rattle.std.proofs.lemmas.Bool.{cond-true, cond-false, ne_eqb, eq-eqb, cases_eq}
 use Rattle.awk_record.specs.Cut.{cut_of}
 use Rattle.awk_record.specs.Buffer.{Pending}
@@ -21,7 +21,7 @@ use Rattle.awk_streams.specs.declared.fault.StreamFault.TheVariants.{Memory, Wri
 use Rattle.awk_streams.specs.declared.input.Input.{Input}
 use Rattle.awk_streams.specs.declared.named.NamedStream.{NamedStream}
 use Rattle.awk_streams.specs.definitions.Inputs.{IsInputFault}
-use Rattle.awk_streams.specs.definitions.Streams.{StreamsView, number_of, IsOpenMain, AreOpenNamed, AreOthers, IsApartFrom, AreOpen, ClosesMain, held_of, with_held, IsSoundInput, IsSoundMain, AreSound, IsRestOf, StandFor, FailsAs}
+use Rattle.awk_streams.specs.definitions.Streams.{StreamsView, number_of, IsOpenMain, AreOpenNamed, AreOthers, IsApartFrom, AreOpen, ClosesMain, held_of, with_held, IsSoundInput, IsSoundMain, is_of_main, AreSound, IsRestOf, StandFor, FailsAs}
 use Rattle.awk_streams.specs.definitions.MainInput.{OpensMain, AsksMain, EndsMain, closed_main}
 use Rattle.awk_streams.specs.support.Kept.{SameAt, SameFor}
 use Rattle.awk_streams.specs.support.Pulls.{IsToldAs}
@@ -29,6 +29,7 @@ use Rattle.awk_streams.specs.support.Asks.{Takes}
 use Rattle.awk_streams.proofs.GrowsLemmas.{grows_on, logs_grow, fails_now}
 use Rattle.awk_streams.proofs.KeptLemmas.{same_counts-self}
 use Rattle.awk_streams.proofs.StreamsLemmas.{sound_same, stand_same, same_for_all, same_for_others}
+use Rattle.awk_streams.proofs.OwnedLemmas.{is_other, closed_main_none}
 use Rattle.awk_streams.proofs.ViewLemmas.{open_named_on}
 use Rattle.awk_streams.proofs.OpenLemmas.{grants_input, granted_order, opens_keep, opens_here, fresh_others, refuses_input, new_input_sound}
 use Rattle.awk_streams.proofs.OpensLemmas.{counts_input, left_stand}
@@ -57,9 +58,9 @@ main_opened_open before after s id p h fresh opens = record {
 fresh_sound : (kind : InputKind) (name : List ℕ) (id : ℕ) (log : List Event) (p : Pending) → p ≡ record { bytes = []; ending = None } → IsSoundInput (OpenedInput kind name (Some id) ∷ log) kind record { id = id; pending = p }
 fresh_sound kind name id log p is = subst (λ (q : Pending). IsSoundInput (OpenedInput kind name (Some id) ∷ log) kind record { id = id; pending = q }) (sym is) (new_input_sound kind name id log)
 
-main_opened_sound : (before after : WorldState) (s : StreamsView) (kind : InputKind) (name : List ℕ) (id : ℕ) (p : Pending) → kind ≢ Command → p ≡ record { bytes = []; ending = None } → AreOpen before s → AreSound before s → IsFresh before id → Opens before after id →
+main_opened_sound : (before after : WorldState) (s : StreamsView) (kind : InputKind) (name : List ℕ) (id : ℕ) (p : Pending) → s.main ≡ None → kind ≢ Command → p ≡ record { bytes = []; ending = None } → AreOpen before s → AreSound before s → IsFresh before id → Opens before after id →
     after.log ≡ OpenedInput kind name (Some id) ∷ before.log → AreSound after record s { main = Some record { id = id; pending = p } }
-main_opened_sound before after s kind name id p plain empty open' h fresh opens is =
+main_opened_sound before after s kind name id p none plain empty open' h fresh opens is =
     let event : Event = OpenedInput kind name (Some id) in
     let log : List Event = event ∷ before.log in
     let grants = grants_input id kind name before.log in
@@ -71,6 +72,7 @@ main_opened_sound before after s kind name id p plain empty open' h fresh opens 
       once = h.once;
       few = h.few;
       flushed = λ j other. grants.flushed j ∙ h.flushed j other;
+      owned = λ j no_main no_named. (grants.others j (is_other id j no_main)).stands ∙ h.owned j (ap (is_of_main j) none) no_named;
     }
 
 pub new_rest : (a : Oracle) (kind : InputKind) (name : List ℕ) (id : ℕ) (log : List Event) (p : Pending) (s : Source) → p ≡ record { bytes = []; ending = None } → a.input kind name (how_many (opens_input kind name) log) ≡ Some s → IsRestOf a (OpenedInput kind name (Some id) ∷ log) record { id = id; pending = p } s
@@ -112,10 +114,10 @@ main_opened_told before after s kind name id p u empty open' fresh opens is same
 pub open_main_open : (before after : WorldState) (old s : StreamsView) (id : ℕ) (p : Pending) → s ≡ old → AreOpen before old → IsFresh before id → Opens before after id → AreOpen after record s { main = Some record { id = id; pending = p } }
 open_main_open before after old s id p is h fresh opens = main_opened_open before after s id p (subst (λ (v : StreamsView). AreOpen before v) (sym is) h) fresh opens
 
-pub open_main_sound : (before after : WorldState) (old s : StreamsView) (kind : InputKind) (name : List ℕ) (id : ℕ) (p : Pending) → s ≡ old → kind ≢ Command → p ≡ record { bytes = []; ending = None } → AreOpen before old → AreSound before old → IsFresh before id → Opens before after id →
+pub open_main_sound : (before after : WorldState) (old s : StreamsView) (kind : InputKind) (name : List ℕ) (id : ℕ) (p : Pending) → s ≡ old → old.main ≡ None → kind ≢ Command → p ≡ record { bytes = []; ending = None } → AreOpen before old → AreSound before old → IsFresh before id → Opens before after id →
     after.log ≡ OpenedInput kind name (Some id) ∷ before.log → AreSound after record s { main = Some record { id = id; pending = p } }
-open_main_sound before after old s kind name id p is plain empty open' h fresh opens log =
-    main_opened_sound before after s kind name id p plain empty (subst (λ (v : StreamsView). AreOpen before v) (sym is) open') (subst (λ (v : StreamsView). AreSound before v) (sym is) h) fresh opens log
+open_main_sound before after old s kind name id p is none plain empty open' h fresh opens log =
+    main_opened_sound before after s kind name id p (ap (λ (v : StreamsView). v.main) is ∙ none) plain empty (subst (λ (v : StreamsView). AreOpen before v) (sym is) open') (subst (λ (v : StreamsView). AreSound before v) (sym is) h) fresh opens log
 
 pub open_main_told : (before after : WorldState) (old s : StreamsView) (kind : InputKind) (name : List ℕ) (id : ℕ) (p : Pending) (u : Unit {0}) → s ≡ old → p ≡ record { bytes = []; ending = None } → AreOpen before old → IsFresh before id → Opens before after id →
     after.log ≡ OpenedInput kind name (Some id) ∷ before.log → after.first_failure ≡ before.first_failure → OpensMain kind name before old (Ok u) after record s { main = Some record { id = id; pending = p } }
@@ -186,6 +188,9 @@ asked_main_sound separator before after s old new step is open' h same takes =
       once = h.once;
       few = h.few;
       flushed = λ j other. reaches_flushed old.id j separator old.pending takes.pulls.seen before.log after.log takes.pulls.reads ∙ h.flushed j other;
+      owned = λ j no_main no_named.
+          (reaches_streams old.id separator old.pending takes.pulls.seen before.log after.log takes.pulls.reads).stands j ∙
+          h.owned j (ap (is_of_main j) is ∙ (ap (λ i. i == j) (sym takes.id) ∙ no_main)) no_named;
     }
 
 pub step_failure : {T : Type 0} (before after : WorldState) (step : Result Step BufferFault) (result : Result T StreamFault) → (result ≢ Err Memory → step ≢ Err BufferMemory) → (result ≡ Err Memory → step ≡ Err BufferMemory) → result ≢ Err WriteFailed →
@@ -336,6 +341,7 @@ close_main_sound before after old s n is open' h closes log =
       once = h.once;
       few = h.few;
       flushed = λ j other. main_flushed old.main j n before.log (h.flushed j other);
+      owned = λ j no_main no_named. closed_main_none old.main j n before.log (λ other. h.owned j other no_named);
     })
 
 pub close_main_told : (before after : WorldState) (old s : StreamsView) (n : ℤ) → s ≡ old → AreOpen before old → AreSound before old → after.log ≡ closed_main old.main n before.log → after.first_failure ≡ before.first_failure → EndsMain before old after record s { main = None }

@@ -29,6 +29,7 @@ use Rattle.awk_streams.proofs.NamesLemmas.{AllFail, first_found, first_at}
 use Rattle.awk_streams.proofs.NamedLemmas.{open_at}
 use Rattle.awk_streams.proofs.ViewLemmas.{keeps_open}
 use Rattle.awk_streams.proofs.MainLemmas.{step_failure}
+use Rattle.awk_streams.proofs.OwnedLemmas.{of_named_by}
 use Rattle.awk_streams.proofs.AskLemmas.{named_next, named_memory, named_wants, named_not_write, reaches_openings, reaches_streams, reaches_others, reaches_flushed, reaches_open, asked_sound, asked_order, asked_rest}
 use Rattle.awk_streams.proofs.InputCallLemmas.{rest_found, leaves_rest, same_input, back_fails, number_skip}
 
@@ -117,6 +118,9 @@ next_sound separator before after s front back k k' n n' old new step is open' h
       once = once_by s.named (front ++ y ∷ back) (numbered_middle front back x y names takes.id ∙ ap numbered (sym is)) h.once;
       few = subst (λ (m : ℕ). m ≤ 200) (sym (length_middle front back x y ∙ ap length (sym is))) h.few;
       flushed = λ j other. reaches_flushed old.id j separator old.pending takes.pulls.seen before.log after.log takes.pulls.reads ∙ h.flushed j (ap (λ hs. is_output_among j ((0, s.output) ∷ (1, s.error) ∷ hs)) (sym held) ∙ other);
+      owned = λ j no_main no_named.
+          (reaches_streams old.id separator old.pending takes.pulls.seen before.log after.log takes.pulls.reads).stands j ∙
+          h.owned j no_main (of_named_by j s.named (front ++ y ∷ back) (numbered_middle front back x y names takes.id ∙ ap numbered (sym is)) no_named);
     }
 
 next_told : (kind : InputKind) (name separator : List ℕ) (before after : WorldState) (s : StreamsView) (front back : List NamedStream) (k k' : InputKind) (n n' : List ℕ) (old new : Input) (step : Result Step BufferFault) (result : Result NextNamed StreamFault) → s.named ≡ front ++ named.Input k n old ∷ back →

@@ -22,6 +22,7 @@ use Rattle.awk_record.specs.Cut.{Ending}
 use Rattle.awk_record.specs.Buffer.{Pending}
 use Rattle.awk_streams.specs.definitions.Streams.{numbered}
 use Rattle.awk_streams.specs.support.Places.{is_named_input, is_named_output}
+use Rattle.awk_streams.proofs.OwnedLemmas.{is_other, of_first, of_last}
 use Rattle.awk_streams.proofs.NamesLemmas.{AllFail}
 use Rattle.awk_streams.proofs.ViewLemmas.{keeps_open}
 use Rattle.awk_streams.proofs.StreamsLemmas.{main_same, sound_same, same_for_all, same_for_others, same_for_main}
@@ -158,8 +159,8 @@ among_front j (named.Input k n input ∷ xs) x e = among_front j xs x e
 among_front j (named.Output k n output ∷ xs) x e = or_false (output.id == j) (is_output_among j (held_in (xs ++ x ∷ []))) (is_output_among j (held_in xs)) e (among_front j xs x)
 
 pub added_sound : (before after : WorldState) (old : StreamsView) (id : ℕ) (e : Event) (x : NamedStream) → AreOpen before old → AreSound before old → Grants id e before.log → IsFresh before id → Opens before after id → after.log ≡ e ∷ before.log → IsSound (e ∷ before.log) x →
-    NoneIs (name_of x) old.named → length old.named < 200 → AreSound after record old { named = old.named ++ x ∷ [] }
-added_sound before after old id e x open' h grants fresh opens is here none few =
+    number_of x ≡ id → NoneIs (name_of x) old.named → length old.named < 200 → AreSound after record old { named = old.named ++ x ∷ [] }
+added_sound before after old id e x open' h grants fresh opens is here number none few =
     let new : StreamsView = record old { named = old.named ++ x ∷ [] } in
     let log : List Event = e ∷ before.log in
     let same : SameFor old.named before.log log = same_for_others id old.named before.log log grants.others (fresh_others before id old.named fresh open'.named) in
@@ -171,6 +172,8 @@ added_sound before after old id e x open' h grants fresh opens is here none few 
       few = omega (arith, few, length-append old.named (x ∷ []));
       flushed = λ j other. grants.flushed j ∙ h.flushed j (or_false (0 == j) (1 == j || is_output_among j (held_in (old.named ++ x ∷ []))) (1 == j || is_output_among j (held_in old.named)) other
           (λ one. or_false (1 == j) (is_output_among j (held_in (old.named ++ x ∷ []))) (is_output_among j (held_in old.named)) one (among_front j old.named x)));
+      owned = λ j no_main no_named.
+          (grants.others j (λ (e : j ≡ id). is_other (number_of x) j (of_last j old.named x no_named) (e ∙ sym number))).stands ∙ h.owned j no_main (of_first j old.named x no_named);
     }
 
 -- an event that leaves all
@@ -196,6 +199,7 @@ left_sound before after s e h leaves same is =
       once = h.once;
       few = h.few;
       flushed = λ j other. leaves.flushed j ∙ h.flushed j other;
+      owned = λ j no_main no_named. (leaves.same j).stands ∙ h.owned j no_main no_named;
     }
 
 pub same_sound : (before after : WorldState) (s : StreamsView) → AreSound before s → SameOpen before after → after.log ≡ before.log → AreSound after s
@@ -207,6 +211,7 @@ same_sound before after s h same is =
       once = h.once;
       few = h.few;
       flushed = h.flushed;
+      owned = h.owned;
     }
 
 -- what is new stands
@@ -227,10 +232,10 @@ asked_open before after old s zs id x is items h fresh opens number =
     subst (λ (v : StreamsView). AreOpen after record v { named = zs }) (sym is) (subst (λ (l : List NamedStream). AreOpen after record old { named = l }) (sym items) (added_open before after old id x h fresh opens number))
 
 pub asked_sound : (before after : WorldState) (old s : StreamsView) (zs : List NamedStream) (id : ℕ) (e : Event) (x : NamedStream) → s ≡ old → zs ≡ old.named ++ x ∷ [] → AreOpen before old → AreSound before old → Grants id e before.log → IsFresh before id → Opens before after id → after.log ≡ e ∷ before.log →
-    IsSound (e ∷ before.log) x → NoneIs (name_of x) old.named → length old.named < 200 → AreSound after record s { named = zs }
-asked_sound before after old s zs id e x is items open' h grants fresh opens log here none few =
+    IsSound (e ∷ before.log) x → number_of x ≡ id → NoneIs (name_of x) old.named → length old.named < 200 → AreSound after record s { named = zs }
+asked_sound before after old s zs id e x is items open' h grants fresh opens log here number none few =
     subst (λ (v : StreamsView). AreSound after record v { named = zs }) (sym is)
-    (subst (λ (l : List NamedStream). AreSound after record old { named = l }) (sym items) (added_sound before after old id e x open' h grants fresh opens log here none few))
+    (subst (λ (l : List NamedStream). AreSound after record old { named = l }) (sym items) (added_sound before after old id e x open' h grants fresh opens log here number none few))
 
 pub output_items : (xs ys zs : List NamedStream) (kind : OutputKind) (name name' : List ℕ) (id : ℕ) (held : List ℕ) → zs ≡ xs ++ named.Output kind name' record { id = id; held = held } ∷ [] → xs ≡ ys → name' ≡ name → held ≡ [] → zs ≡ ys ++ new_output kind name id ∷ []
 output_items xs ys zs kind name name' id held is same same_name none =

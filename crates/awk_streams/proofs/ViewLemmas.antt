@@ -21,6 +21,7 @@ use Rattle.awk_streams.specs.support.Held.{ChangesHeld, AreEmpty, HoldsNothing}
 use Rattle.awk_streams.specs.support.Brings.{Touches, BringsHeld, BringsTo, AreFlushedBut}
 use Rattle.awk_streams.proofs.OpeningsLemmas.{receives-none}
 use Rattle.awk_streams.proofs.StreamsLemmas.{main_same, main_rest_same, sound_same, stand_same, same_for_all, same_for_main, but_held_numbered, but_held_length, open_named_by, apart_by, apart_from_main_by, once_by, but_held_sound, but_held_stand, but_held_among}
+use Rattle.awk_streams.proofs.OwnedLemmas.{of_main_by, of_named_by}
 use Rattle.awk_streams.proofs.NamedLemmas.{other_outputs}
 use Rattle.awk_streams.proofs.BringLemmas.{on_ok, touches_as, flush_brings, flush_flushed, brings-then}
 
@@ -55,6 +56,8 @@ keeps_sound before after old new touches main same h = record {
   flushed = λ id other.
       let other' = sym (same_among id old new same) ∙ other in
       touches.others id other' ∙ h.flushed id other';
+  owned = λ id no_main no_named.
+      (touches.same id).stands ∙ h.owned id (of_main_by id old.main new.main main no_main) (of_named_by id old.named new.named (but_held_numbered old.named new.named same) no_named);
 }
 
 pub keeps_main_rest : (a : Oracle) (before after : WorldState) (main main' : Option Input) (rest : Option Source) → ((j : ℕ) → SameAt j before.log after.log) → main' ≡ main → IsMainRest a before.log main rest → IsMainRest a after.log main' rest

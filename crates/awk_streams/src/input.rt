@@ -1,7 +1,8 @@
 // Inputs: records out of the bytes that a world hands over.
 ghost use Rattle.std.specs.Prelude.{◌≡◌, ◌≢◌, ◌≤◌, ◌<◌, ◌+◌, ◌⊎◌, ℕ, List, ◌∷◌, length, take, vec_len};
-ghost use Rattle.std.specs.Prelude.{IsTrue, ◌↔◌, OnOk, OnErr, IfErr, None, Err, Ok};
+ghost use Rattle.std.specs.Prelude.{IsTrue, ◌↔◌, OnOk, OnErr, IfErr, IfSome, IfNone, None, Err, Ok};
 ghost use Rattle.awk_record.specs.Cut.{longest};
+ghost use Rattle.awk_record.specs.Buffer.{Steps};
 ghost use Rattle.awk_world.specs.definitions.WorldState.{SameOpen, MayFailNow};
 ghost use Rattle.awk_world.specs.definitions.Grows.{Grows};
 ghost use Rattle.awk_world.specs.definitions.Log.{Event, Read};
@@ -166,7 +167,8 @@ fn is_need_more(step: &Step) -> bool
 }
 
 // The next record of an input, read only as far as it is needed.
-pub fn next_from<W: World>(
+#[inline(never)]
+fn read_next<W: World>(
     world: &mut W,
     id: u64,
     buffer: &mut RecordBuffer,
@@ -190,6 +192,43 @@ pub fn next_from<W: World>(
         }
         read_more(world, id, buffer, chunk)?;
     }
+}
+
+// The next record, where it is at hand by a separator of one byte.
+#[inline(always)]
+fn take_at_hand(buffer: &mut RecordBuffer, separator: &[u8]) -> Option<Bytes>
+    ensures some { IfSome result (λ first. Steps separator.now buffer.old (Ok (Step.Record first)) buffer.new) }
+    ensures none { IfNone result (buffer.new ≡ buffer.old) }
+    ensures ending { buffer.new.ending ≡ buffer.old.ending }
+{
+    match separator {
+        [byte] => buffer.record_at_hand(*byte),
+        _ => None,
+    }
+}
+
+// The next record of an input: one that is at hand is taken at once, and else it is read as far as it is needed.
+pub fn next_from<W: World>(
+    world: &mut W,
+    id: u64,
+    buffer: &mut RecordBuffer,
+    chunk: &mut Vec<u8>,
+    separator: &[u8],
+) -> Result<Step, BufferFault>
+    requires open { IsTrue ((W.state world.old).is_open id) }
+    ensures open { SameOpen (W.state world.old) (W.state world.new) }
+    ensures step { result ≢ Ok Step.NeedMore }
+    ensures pulls { W.is_logged →
+        Pulls id separator.now buffer.old (W.state world.old).log result buffer.new (W.state world.new).log }
+    ensures no_failure { W.is_logged → result ≢ Err BufferFault.Memory →
+        (W.state world.new).first_failure ≡ (W.state world.old).first_failure }
+    ensures failure { W.is_logged → result ≡ Err BufferFault.Memory → MayFailNow (W.state world.old) (W.state world.new) }
+    ensures grows { W.is_logged → Grows (W.state world.old) (W.state world.new) }
+{
+    if let Some(record) = take_at_hand(buffer, separator) {
+        return Ok(Step::Record(record));
+    }
+    read_next(world, id, buffer, chunk, separator)
 }
 
 // One asking of an input for its next record.

@@ -5,7 +5,7 @@ use Rattle.awk_world.specs.declared.world.InputKind.{InputKind}
 use Rattle.awk_world.specs.declared.world.OutputKind.{OutputKind}
 use Rattle.awk_world.specs.definitions.WorldState.{WorldState}
 use Rattle.awk_world.specs.definitions.Log.{Event, Wrote, Flushed, Closed, Ran}
-use Rattle.awk_world.specs.definitions.Oracle.{Oracle, Source, IsConsistent, SameCounts, one_if, how_many, opens_input, opens_output, closes_command, runs}
+use Rattle.awk_world.specs.definitions.Oracle.{Oracle, Source, IsConsistent, SameCounts, one_if, how_many, opens_input, opens_output, closes_command, runs, standing}
 use Rattle.awk_world.specs.definitions.Writes.{GoesOn}
 use Rattle.awk_world.specs.definitions.Openings.{outputs_of, AreBrought, Begins}
 use Rattle.awk_world.specs.definitions.Grows.{Grows}
@@ -188,6 +188,8 @@ pub record Finishes (before : WorldState) (old : StreamsView) (result : Result (
   pub only : GoesOn AreOfTheEnd before.log after.log
   pub first : BringsFirst before after
   pub each : BringsAndCloses before old result after
+  -- nothing stands open behind it
+  pub closed : (id : ℕ) → standing id after.log ≡ None
   pub ends : OnOk result (EndsAll before old after new)
   pub brought : OnOk result (AreBrought (printed_openings before old) after.log)
   pub begins : Begins (outputs_of after.log) (printed_openings before old)

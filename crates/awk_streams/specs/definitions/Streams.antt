@@ -154,6 +154,15 @@ abbrev pub AreOnce : List NamedStream → Type 0
 AreOnce [] = Unit {0}
 AreOnce (x ∷ xs) = HaveOtherNames (name_of x) xs × AreOnce xs
 
+-- whether the main input, or one of the named streams, has this number
+abbrev pub is_of_main : ℕ → Option Input → Bool
+is_of_main id None = false
+is_of_main id (Some input) = input.id == id
+
+abbrev pub is_of_named : ℕ → List NamedStream → Bool
+is_of_named id [] = false
+is_of_named id (x ∷ xs) = number_of x == id || is_of_named id xs
+
 pub record AreSound (world : WorldState) (streams : StreamsView) : Type 0 where
   pub order : IsInOrder world.is_open world.log
   pub main : IsSoundMain world.log streams.main
@@ -162,6 +171,8 @@ pub record AreSound (world : WorldState) (streams : StreamsView) : Type 0 where
   pub few : length streams.named ≤ most_streams
   -- what is written to no more was flushed, or closed
   pub flushed : (id : ℕ) → is_output_among id (held_of streams) ≡ false → is_flushed id world.log ≡ true
+  -- nothing else stands open
+  pub owned : (id : ℕ) → is_of_main id streams.main ≡ false → is_of_named id streams.named ≡ false → standing id world.log ≡ None
 
 -- What the streams are in the words of the language, as the oracle gives it.
 

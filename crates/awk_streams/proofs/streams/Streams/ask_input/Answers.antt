@@ -35,7 +35,7 @@ returns-in-Ok-clause-sound g c = λ t.
     (empty_pending c.new-pending.result c.new-pending.ensures.bytes c.new-pending.ensures.ending) in
     asked_sound (w.state c.args.world.now) (w.state c.open_input.new.self) c.args.self.now s c.add.new.named.items c.in-Ok.id (OpenedInput c.args.kind c.args.name.now (Some c.in-Ok.id)) (new_input c.args.kind c.args.name.now c.in-Ok.id) c.self.view_is items c.requires.open (c.requires.sound t)
     (grants_input c.in-Ok.id c.args.kind c.args.name.now (w.state c.args.world.now).log) c.in-Ok.ensures.fresh c.in-Ok.ensures.opens (rw c.as_slice.ensures at (c.in-Ok.ensures.logs t).0) (new_input_sound c.args.kind c.args.name.now c.in-Ok.id (w.state c.args.world.now).log)
-    (no_input c.args.kind c.args.name.now c.args.self.now.named (not_found _ c.args.self.now.named c.requires.lacks)) c.requires.few
+    refl (no_input c.args.kind c.args.name.now c.args.self.now.named (not_found _ c.args.self.now.named c.requires.lacks)) c.requires.few
 
 pub returns-in-Err-Failed-clause-open : goal.returns-in-Err-Failed-clause-open
 returns-in-Err-Failed-clause-open g c =

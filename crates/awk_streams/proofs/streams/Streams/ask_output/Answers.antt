@@ -24,7 +24,7 @@ returns-in-Ok-clause-sound g c = λ t.
     (c.make_room.ensures.same ∙ c.new-held.ensures) in
     asked_sound (w.state c.args.world.now) (w.state c.open_output.new.self) c.args.self.now s c.add.new.named.items c.in-Ok.id (OpenedOutput c.args.kind c.args.name.now c.args.mode (Some c.in-Ok.id)) (new_output c.args.kind c.args.name.now c.in-Ok.id) c.self.view_is items c.requires.open (c.requires.sound t)
     (grants_output c.in-Ok.id c.args.kind c.args.name.now c.args.mode (w.state c.args.world.now).log) c.in-Ok.ensures.fresh c.in-Ok.ensures.opens (rw c.as_slice.ensures at (c.in-Ok.ensures.logs t).0) (new_output_sound c.args.kind c.args.name.now c.args.mode c.in-Ok.id (w.state c.args.world.now).log)
-    (no_output c.args.kind c.args.name.now c.args.self.now.named (none_found _ c.args.self.now.named c.requires.lacks)) c.requires.few
+    refl (no_output c.args.kind c.args.name.now c.args.self.now.named (none_found _ c.args.self.now.named c.requires.lacks)) c.requires.few
 
 pub returns-in-Err-Failed-clause-open : goal.returns-in-Err-Failed-clause-open
 returns-in-Err-Failed-clause-open g c =

@@ -16,7 +16,7 @@ pub returns-in-Ok-clause-sound : goal.returns-in-Ok-clause-sound
 returns-in-Ok-clause-sound g c = λ t.
     let w = g.W.World in
     let s : StreamsView = record { main = c.self.inside.main; output = c.self.inside.output; error = c.self.inside.error; named = c.self.inside.named.items } in
-    open_main_sound (w.state c.args.world.now) (w.state c.open_input.new.self) c.args.self.now s c.args.kind c.args.name.now c.in-Ok.id c.new-pending.result c.self.view_is c.requires.plain (empty_pending c.new-pending.result c.new-pending.ensures.bytes c.new-pending.ensures.ending) c.requires.open (c.requires.sound t)
+    open_main_sound (w.state c.args.world.now) (w.state c.open_input.new.self) c.args.self.now s c.args.kind c.args.name.now c.in-Ok.id c.new-pending.result c.self.view_is c.requires.none c.requires.plain (empty_pending c.new-pending.result c.new-pending.ensures.bytes c.new-pending.ensures.ending) c.requires.open (c.requires.sound t)
     c.in-Ok.ensures.fresh c.in-Ok.ensures.opens (c.in-Ok.ensures.logs t).0
 
 pub returns-in-Ok-clause-told : goal.returns-in-Ok-clause-told

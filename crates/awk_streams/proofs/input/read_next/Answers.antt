@@ -6,7 +6,7 @@ use Rattle.awk_record.specs.declared.buffer_fault.BufferFault.{BufferFault}
 use Rattle.awk_streams.specs.support.Pulls.{Brings, Pulls}
 use Rattle.awk_streams.proofs.InputLemmas.{Reaches-more, ok_err, step_ending, pulls_lost}
 use Rattle.awk_streams.proofs.GrowsLemmas.{Grows-then, not_failing, may_fail_later}
-use Rattle.awk_streams.proofs.input.next_from.Goals as goal
+use Rattle.awk_streams.proofs.input.read_next.Goals as goal
 
 pub loop-step-preserved : goal.loop-step-preserved
 loop-step-preserved g c = record {

@@ -3,7 +3,7 @@ use Rattle.awk_world.specs.definitions.WorldState.{SameOpen}
 use Rattle.awk_world.specs.definitions.Grows.{Grows}
 use Rattle.awk_streams.specs.definitions.Inputs.{Reaches}
 use Rattle.awk_streams.specs.support.Pulls.{room_of}
-use Rattle.awk_streams.proofs.input.next_from.Given as goal
+use Rattle.awk_streams.proofs.input.read_next.Given as goal
 
 pub record SoFar (same reached failed grown : Type 0) : Type 0 where
   pub same_open : same
