@@ -1,3 +1,4 @@
 -- What a reader has to believe.
 pub mod Opened
 pub mod Commands
+pub mod Files

@@ -4,6 +4,7 @@
 mod calls;
 mod commands;
 mod descriptors;
+mod files;
 mod opened;
 mod system_world;
 

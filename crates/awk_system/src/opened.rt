@@ -1,8 +1,8 @@
 // What stands open under a number.
-ghost use Rattle.std.specs.Prelude.{◌≡◌, ◌≤◌, IfOk, true, false, length, pos};
+ghost use Rattle.std.specs.Prelude.{◌≡◌, ◌≤◌, IfOk, IfSome, true, false, length};
 ghost use Rattle.std.specs.Io.KnownBytes.{ReadConsumes};
 ghost use Rattle.awk_system.specs.definitions.Commands.{IsCommandNumber};
-ghost use Rattle.awk_system.specs.definitions.Opened.{is_command};
+ghost use Rattle.awk_system.specs.definitions.Opened.{is_command, number_at_close};
 
 use crate::calls::{read_from, write_to};
 use crate::commands::{read_output, wait_for, write_input};
@@ -61,7 +61,7 @@ impl<P: OpenProcess + Drop> Opened<P> {
 
     /// Closes it, and answers the number of a command, once that has ended, and else 0.
     pub fn close(self) -> i128
-        ensures file { is_command self ≡ false → result ≡ pos 0 }
+        ensures number { IfSome (number_at_close self) (λ number. result ≡ number) }
         ensures command { IsCommandNumber result }
     {
         match self {

@@ -1,22 +1,23 @@
 // The system as the outside of a run.
 ghost use Rattle.std.specs.Prelude.{◌≡◌, ◌≢◌, ◌≤◌, ◌⊎◌, ℕ, Ok, Err, [], None, Some, IfOk, OnErr};
-ghost use Rattle.std.specs.Prelude.{IsTrue, IsSome, true, false, is_some, length, nat_lt, pos, if◌then◌else◌};
+ghost use Rattle.std.specs.Prelude.{IsTrue, IsSome, IfSome, option_and_then, true, false, is_some, length, nat_lt, pos, if◌then◌else◌};
 ghost use Rattle.std.specs.Str.{IsUtf8};
 ghost use Rattle.std.specs.Ordering.{nat_cmp};
 ghost use Rattle.std.specs.BTreeMap.{get};
 ghost use Rattle.std.specs.Io.KnownBytes.{Keeps, ReadConsumes, WriteAppends};
 ghost use Rattle.awk_world.specs.WorldState.{IsFresh, Opens, Closes, SameOpen};
-ghost use Rattle.awk_system.specs.definitions.Opened.{is_open_in, is_command, is_command_at};
+ghost use Rattle.awk_system.specs.definitions.Opened.{is_open_in, is_command, is_command_at, number_at_close};
 ghost use Rattle.awk_system.specs.definitions.Commands.{IsCommandNumber};
 ghost use Rattle.awk_system.specs.support.StandardOutputs.{standard_outputs_open};
 
 use crate::calls::{fault_of, flush_of, text_of, write_to};
 use crate::commands::{start, wait_for};
+use crate::files::options_for;
 use crate::opened::Opened;
 use awk_world::{InputKind, Mode, OUTPUT_BUFFER_SIZE, OutputKind, World, WorldFault};
 use std::alloc::Global;
 use std::collections::BTreeMap;
-use std::fs::{File, Files, OpenOptions};
+use std::fs::{File, Files};
 use std::io::{IsTerminal, Read, Write};
 use std::process::{Processes, Stdio};
 
@@ -188,13 +189,7 @@ impl<
         ensures { ¬ (IsUtf8 name.now) → result ≡ Err WorldFault.Failed }
     {
         let path = text_of(name)?;
-        let mut options = OpenOptions::new();
-        match mode {
-            Mode::Truncate => options.write(true).truncate(true),
-            Mode::Append => options.append(true),
-        };
-        options
-            .create(true)
+        options_for(mode)
             .open(&self.runtime, path)
             .map_err(fault_of)
     }
@@ -313,7 +308,7 @@ impl<
         requires opened { 2 ≤ id }
         ensures closes { Closes (⟦<SysWorld<R, I, O, E> as World>⟧.state self.old)
             (⟦<SysWorld<R, I, O, E> as World>⟧.state self.new) id }
-        ensures file { is_command_at id self.old.opened ≡ false → result ≡ pos 0 }
+        ensures number { IfSome (option_and_then number_at_close (get nat_cmp self.old.opened id)) (λ number. result ≡ number) }
         ensures command { IsCommandNumber result }
     {
         match self.opened.remove(&id) {

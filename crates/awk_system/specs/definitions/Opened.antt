@@ -1,8 +1,10 @@
--- Which streams stand open: the two standard outputs, and what was opened and not closed; and which of them is a command.
-use Rattle.std.specs.Prelude.{ℕ, Bool, true, false, is_some, nat_lt, ◌||◌}
+-- Which streams stand open: the two standard outputs, and what was opened and not closed; which of them is a command, and what a
+-- closing answers.
+use Rattle.std.specs.Prelude.{ℕ, ℤ, pos, Bool, true, false, Option, Some, is_some, nat_lt, ◌||◌}
 use Rattle.std.specs.Option.{option_map_or}
 use Rattle.std.specs.Ordering.{nat_cmp}
 use Rattle.std.specs.BTreeMap.{BTreeMap, get}
+use Rattle.awk_system.specs.definitions.Commands.{number_told}
 use Rattle.awk_system.specs.declared.opened.Opened.{Opened}
 use Rattle.awk_system.specs.declared.opened.Opened.TheVariants.{Command}
 
@@ -18,3 +20,8 @@ is_command _ = false
 -- whether a command was opened under the number
 abbrev pub is_command_at : {P I O E : Type 0} → ℕ → BTreeMap ℕ (Opened P I O E) → Bool
 is_command_at id opened = option_map_or is_command (get nat_cmp opened id) false
+
+-- the number that a closing answers where it is known before: 0 of what is no command, and that of a command which a wait told of
+abbrev pub number_at_close : {P I O E : Type 0} → Opened P I O E → Option ℤ
+number_at_close (Command child) = number_told child
+number_at_close _ = Some (pos 0)
