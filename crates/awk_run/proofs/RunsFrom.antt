@@ -4,7 +4,7 @@ use Rattle.std.specs.Prelude.{IfErr}
 use Rattle.awk_streams.specs.declared.fault.StreamFault.{StreamFault}
 use Rattle.awk_streams.specs.Outputs.{IsOutputFault}
 use Rattle.awk_streams.specs.Log as log
-use Rattle.awk_streams.specs.Oracle.{Oracle, IsConsistent}
+use Rattle.awk_streams.specs.Oracle.{Oracle, IsConsistent, standing}
 use Rattle.awk_streams.specs.Orderly.{IsOrderly, IsInOrder}
 use Rattle.awk_streams.specs.Openings.{outputs_of, is_flushed}
 use Rattle.awk_streams.specs.Streams.{StreamsView, AreSound, printed_openings}
@@ -34,7 +34,7 @@ use Rattle.awk_run.specs.support.Planned.{IsPlanFor, assign_and_run_at}
 use Rattle.awk_run.specs.support.Verdict.{outcome_after, no_streams, EndsWithoutStreams}
 use Rattle.awk_run.proofs.PlanMeans.{functions_of, whole_same}
 use Rattle.awk_run.proofs.RunEnds.{read_off, IsMeant, Came, came, brought, in_turn, no_failure_before, halted_by, body_failed, fails_at, begins_at_end}
-use Rattle.awk_run.proofs.ShortRuns.{short_at}
+use Rattle.awk_run.proofs.ShortRuns.{short_at, cut_at}
 
 -- the law that some oracle is consistent with an orderly log, as the streams give it
 abbrev pub SomeIsConsistent : Type 0
@@ -75,6 +75,7 @@ runs_by items start limit k1 k2 streams last ended f law unended orderly told fa
     record {
       some = law k2.log orderly;
       orderly = orderly;
+      closed = told.closed;
       outcome = λ calm oracle consistent. (calm_whole oracle k1 k2 streams last ended f (out_by oracle) told is calm (body oracle consistent)).outcome;
       outputs = λ calm oracle consistent. (calm_whole oracle k1 k2 streams last ended f (out_by oracle) told is calm (body oracle consistent)).outputs;
       turn = λ calm oracle consistent. (calm_whole oracle k1 k2 streams last ended f (out_by oracle) told is calm (body oracle consistent)).turn;
@@ -83,6 +84,7 @@ runs_by items start limit k1 k2 streams last ended f law unended orderly told fa
         short = λ caused oracle consistent. short_at oracle k1 k2 streams last f (out_by oracle) told (unended items limit start.pre (start_state items start oracle limit)) (body_failed oracle k1 streams ended (out_by oracle) (body oracle consistent));
         at = λ n some. subst (λ x. FailsAt (λ oracle. read_off (out_by oracle)) n k2.log x) (sym is) (fails_at out_by k1 k2 streams last ended f n told fault (λ oracle. unended items limit start.pre (start_state items start oracle limit)) (law k2.log orderly) body some);
       };
+      cut = λ none memory oracle consistent. cut_at oracle k1 k2 streams last f (out_by oracle) told (body_failed oracle k1 streams ended (out_by oracle) (body oracle consistent)) none;
     }
 
 -- the body of a run, for each oracle
@@ -104,6 +106,7 @@ untouched_sound k order fresh = record {
   once = tt;
   few = omega arith;
   flushed = λ id none. ap (λ (x : List log.Event). is_flushed id x) fresh.log;
+  owned = λ id no_main no_named. ap (λ (x : List log.Event). standing id x) fresh.log;
 }
 
 pub runs_from : (items : List Item) (plan : Plan) (start : StartValues) (limit : ℕ) {is_logged : Type 0} {m m1 : Runtime} {k k1 k2 : WorldState} {r : Result (Unit {0}) Halt} {f : Result (Unit {0}) StreamFault} {last : StreamsView} {result : Outcome} → SomeIsConsistent → LawOfEnds → IsPlanFor items plan m.names → AreFor (tables_of items plan) (functions_of items limit) → Begins items start limit m

@@ -2,7 +2,7 @@
 use Rattle.std.specs.Prelude.{◌≡◌, ◌≢◌, ℕ, List, [], Option, None}
 use Rattle.awk_journal.specs.Adds.{Adds, with_log}
 use Rattle.awk_streams.specs.Log.{Event}
-use Rattle.awk_streams.specs.Oracle.{Oracle, IsConsistent}
+use Rattle.awk_streams.specs.Oracle.{Oracle, IsConsistent, standing}
 use Rattle.awk_streams.specs.Openings.{outputs_of}
 use Rattle.awk_streams.specs.Orderly.{IsOrderly}
 use Rattle.awk_streams.specs.WorldState.{WorldState}
@@ -12,7 +12,7 @@ use Rattle.awk_semantics.specs.declared.outcome.Outcome.TheVariants.{Fault}
 use Rattle.awk_semantics.specs.declared.fault.Fault.TheVariants.{OutOfMemory}
 use Rattle.awk_semantics.specs.Meaning.{StartValues, meaning_of}
 use Rattle.awk_semantics.specs.Order.{IsInTurn}
-use Rattle.awk_semantics.specs.Failure.{Fails}
+use Rattle.awk_semantics.specs.Failure.{Fails, effects_of, IsCutBetween}
 
 -- nothing was done in the world
 pub record IsUntouched (world : WorldState) : Type 0 where
@@ -24,16 +24,20 @@ pub record IsUndisturbed (world : WorldState) (result : Outcome) : Type 0 where
   pub memory : result ≢ Fault OutOfMemory
   pub first_failure : world.first_failure ≡ None
 
--- A run of the items leaves what they mean. Some oracle is consistent with its log, which is in order; and for each oracle that is:
+-- A run of the items leaves what they mean. Some oracle is consistent with its log, which is in order and at whose end nothing stands
+-- open, however the run ended; and for each oracle that is:
 -- undisturbed, the outcome is the meaning's, each opening of an output has received exactly its bytes, and the log meets its
--- requests in turn; disturbed, the run fails as the language has it.
+-- requests in turn; disturbed, the run fails as the language has it, and one that found no memory of its own was cut between two
+-- of its effects.
 pub record Runs (items : List Item) (start : StartValues) (limit : ℕ) (world : WorldState) (result : Outcome) : Type 0 where
   pub some : (oracle : Oracle) × IsConsistent oracle world.log
   pub orderly : IsOrderly world.log
+  pub closed : (id : ℕ) → standing id world.log ≡ None
   pub outcome : IsUndisturbed world result → (oracle : Oracle) → IsConsistent oracle world.log → (meaning_of items start oracle limit).outcome ≡ result
   pub outputs : IsUndisturbed world result → (oracle : Oracle) → IsConsistent oracle world.log → outputs_of world.log ≡ (meaning_of items start oracle limit).outputs
   pub turn : IsUndisturbed world result → (oracle : Oracle) → IsConsistent oracle world.log → IsInTurn oracle (meaning_of items start oracle limit) world.log
   pub failure : Fails (λ oracle. meaning_of items start oracle limit) world result
+  pub cut : world.first_failure ≡ None → result ≡ Fault OutOfMemory → (oracle : Oracle) → IsConsistent oracle world.log → IsCutBetween oracle (effects_of items start oracle limit) world.log
 
 -- from a world in which nothing was done, a run leaves what the items mean
 pub record RunsFrom (is_logged : Type 0) (items : List Item) (start : StartValues) (limit : ℕ) (before after : WorldState) (result : Outcome) : Type 0 where

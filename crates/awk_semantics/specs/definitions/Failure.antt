@@ -1,17 +1,18 @@
 -- What a failure of the outside, or want of memory, leaves of a run (POSIX awk, EXIT STATUS; CONSEQUENCES OF ERRORS).
-use Rattle.std.specs.Prelude.{◌≡◌, ◌⊎◌, ℕ, true, List, [], ◌∷◌, ◌++◌, length, None, Some, is_some}
+use Rattle.std.specs.Prelude.{◌≡◌, ◌⊎◌, ℕ, true, List, [], ◌∷◌, ◌++◌, length, Some, is_some}
 use Rattle.awk_streams.specs.Log.{Event}
 use Rattle.awk_streams.specs.Oracle.{Oracle, IsConsistent}
 use Rattle.awk_streams.specs.Writes.{with_events}
-use Rattle.awk_streams.specs.Openings.{Opening, outputs_of, Begins, AreBrought}
+use Rattle.awk_streams.specs.Openings.{outputs_of, Begins, AreBrought}
 use Rattle.awk_streams.specs.WorldState.{WorldState}
 pub use Rattle.awk_streams.specs.Commands.{AreOfTheEnd}
+use Rattle.awk_grammar.specs.Tree.{Item}
 use Rattle.awk_semantics.specs.declared.fault as declared
 use Rattle.awk_semantics.specs.declared.fault.Fault.TheVariants.{OutOfMemory, WriteFailed}
 use Rattle.awk_semantics.specs.declared.outcome.Outcome.{Outcome}
 use Rattle.awk_semantics.specs.declared.outcome.Outcome.TheVariants.{Fault}
-use Rattle.awk_semantics.specs.definitions.State.{Request, Ends}
-use Rattle.awk_semantics.specs.definitions.Meaning.{Asked, Meaning, first_outputs, outputs_asked}
+use Rattle.awk_semantics.specs.definitions.State.{Request, Ends, Effect}
+use Rattle.awk_semantics.specs.definitions.Meaning.{StartValues, start_state, assign_and_run, Asked, Meaning, first_outputs, outputs_after, requests_from}
 use Rattle.awk_semantics.specs.definitions.Order.{Stage, MeetsAll, first_stage}
 
 -- the requests before the end
@@ -32,21 +33,32 @@ pub record MeetsFirst (oracle : Oracle) (requests : List Asked) (log : List Even
   pub at : last.log ≡ log
   pub meets : MeetsAll oracle met first_stage last
 
--- what was printed when the last of these was asked
-abbrev pub outputs_at : List Opening → List Asked → List Opening
-outputs_at os [] = os
-outputs_at os (asked ∷ more) = outputs_at (outputs_asked asked.what asked.outputs) more
-
--- a run that was cut short: its log met the first of the meaning's requests before the end, and then is of the end alone. Where
--- the world met no failure, what was printed up to the last of those requests is received, and all is flushed
-pub record IsCutShort (oracle : Oracle) (meaning : Meaning) (world : WorldState) : Type 0 where
+-- a run that was cut short: its log met the first of the meaning's requests before the end, and then is of the end alone
+pub record IsCutShort (oracle : Oracle) (meaning : Meaning) (log : List Event) : Type 0 where
   pub earlier : List Event
   pub later : List Event
-  pub parts : world.log ≡ with_events later earlier
+  pub parts : log ≡ with_events later earlier
   pub turn : MeetsFirst oracle (before_end meaning.requests) earlier
   pub ends : AreOfTheEnd later
-  pub kept : world.first_failure ≡ None → Begins (outputs_at first_outputs turn.met) (outputs_of world.log)
-  pub brought : world.first_failure ≡ None → AreBrought (outputs_of world.log) world.log
+
+-- what a run shows, up to its end
+abbrev pub effects_of : List Item → StartValues → Oracle → ℕ → List Effect
+effects_of items start oracle limit = (assign_and_run items limit start.pre (start_state items start oracle limit)).effects
+
+-- a run that was cut between two of its effects: its log met the requests of those before the cut, in turn, and then is of the end
+-- alone; each opening of an output has received just what those print, and was flushed
+pub record IsCutBetween (oracle : Oracle) (effects : List Effect) (log : List Event) : Type 0 where
+  pub done : List Effect
+  pub others : List Effect
+  pub parts : effects ≡ done ++ others
+  pub earlier : List Event
+  pub later : List Event
+  pub adds : log ≡ with_events later earlier
+  pub last : Stage
+  pub at : last.log ≡ earlier
+  pub turn : MeetsAll oracle (requests_from first_outputs done) first_stage last
+  pub ends : AreOfTheEnd later
+  pub brought : AreBrought (outputs_after done) log
 
 -- a fault that the meaning had settled before: this log meets all its requests before the end
 pub record IsSettled (oracle : Oracle) (meaning : Meaning) (log : List Event) (result : Outcome) : Type 0 where
@@ -76,5 +88,5 @@ pub record FailsAt (meaning_by : Oracle → Meaning) (n : ℕ) (log : List Event
 -- for nothing but what the meaning asks, in turn, before it ended
 pub record Fails (meaning_by : Oracle → Meaning) (world : WorldState) (result : Outcome) : Type 0 where
   pub begins : (is_some world.first_failure ≡ true) ⊎ (result ≡ Fault OutOfMemory) → (oracle : Oracle) → IsConsistent oracle world.log → Begins (outputs_of world.log) (meaning_by oracle).outputs
-  pub short : (is_some world.first_failure ≡ true) ⊎ (result ≡ Fault OutOfMemory) → (oracle : Oracle) → IsConsistent oracle world.log → IsCutShort oracle (meaning_by oracle) world
+  pub short : (is_some world.first_failure ≡ true) ⊎ (result ≡ Fault OutOfMemory) → (oracle : Oracle) → IsConsistent oracle world.log → IsCutShort oracle (meaning_by oracle) world.log
   pub at : (n : ℕ) → world.first_failure ≡ Some n → FailsAt meaning_by n world.log result
