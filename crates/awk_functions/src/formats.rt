@@ -1,6 +1,6 @@
 // The texts of formats with values.
 
-ghost use Rattle.std.specs.Prelude.{◌≡◌, Ok, IfOk, IfErr, OnOk};
+ghost use Rattle.std.specs.Prelude.{◌≡◌, ◌<◌, length, get_or, Ok, IfSome, IfOk, IfErr, OnOk};
 ghost use Rattle.awk_text.specs.Formatted.{IsFaultOf, formatted, joined};
 ghost use Rattle.awk_text.specs.Reading.{parts_of};
 ghost use Rattle.awk_text.specs.declared.format_fault.FormatFault.TheVariants.{Memory};
@@ -14,6 +14,7 @@ use awk_text::{Format, FormatFault};
 use awk_value::{Bytes, Value, text_in};
 use itoa::Buffer;
 use std::alloc::Global;
+use std::mem;
 
 // A format that was read, with its text.
 #[derive(Drop)]
@@ -35,20 +36,45 @@ impl ReadFormat {
     }
 }
 
-/// The formats of a run, of which the one that was used last is kept, so that it isn't read anew where it comes again.
+// How many formats are kept.
+const KEPT: usize = 8;
+
+// The place of the format that a text is, where it is among these.
+#[inline]
+fn place_of(formats: &[ReadFormat], text: &[u8]) -> Option<usize>
+    ensures place { IfSome result (λ place. place < length formats.now) }
+    ensures text { IfSome result (λ place. (other : ReadFormat) → (get_or formats.now place other).text ≡ text.now) }
+{
+    let length = text.len();
+    for place in 0..formats.len() {
+        let kept = &formats[place].text;
+        if kept.len() == length && kept.as_slice() == text {
+            return Some(place);
+        }
+    }
+    None
+}
+
+/// The formats of a run, of which those that were read last are kept, so that they aren't read anew where they come again.
 #[derive(Drop)]
 pub struct Formats {
     alloc: Global,
-    last: ReadFormat,
+    // those that were read last, in the order in which they were
+    kept: Vec<ReadFormat>,
+    // the text that was made last, kept for its room
+    made: Vec<u8>,
 }
 
 impl Formats {
-    /// The empty format is kept at first. The only fault is want of memory.
+    /// None is kept at first. The only fault is want of memory.
     pub fn new(alloc: Global) -> Result<Formats, Halt>
         ensures { IfErr result IsWantOfMemory }
     {
-        let last = ReadFormat::read(alloc, b"")?;
-        Ok(Formats { alloc, last })
+        Ok(Formats {
+            alloc,
+            kept: Vec::new(alloc),
+            made: Vec::new(alloc),
+        })
     }
 
     // The format that a text is. The only fault is want of memory.
@@ -56,10 +82,16 @@ impl Formats {
         ensures parts { IfOk result (λ format. format.now ≡ parts_of text.now) }
         ensures fault { IfErr result (λ fault. fault ≡ Memory) }
     {
-        if self.last.text.as_slice() != text {
-            self.last = ReadFormat::read(self.alloc, text)?;
+        if let Some(place) = place_of(self.kept.as_slice(), text) {
+            return Ok(&self.kept[place].format);
         }
-        Ok(&self.last.format)
+        let read = ReadFormat::read(self.alloc, text)?;
+        if self.kept.len() >= KEPT {
+            drop(self.kept.remove(0));
+        }
+        let place = self.kept.len();
+        self.kept.push(read)?;
+        Ok(&self.kept[place].format)
     }
 
     // Appends the text that a format gives of the values.
@@ -94,8 +126,11 @@ impl Formats {
     pub fn format_text(&mut self, values: &[Value]) -> Result<Value, Halt>
         ensures { Yields result (as_text (format_values values.now)) }
     {
-        let mut text = Vec::new(self.alloc);
-        self.format_values(values, &mut text)?;
-        Ok(Value::Text(Bytes::from_vec(self.alloc, text)?))
+        let mut text = mem::replace(&mut self.made, Vec::new(self.alloc));
+        let outcome = self.format_values(values, &mut text);
+        let made = Bytes::from_slice(self.alloc, text.as_slice());
+        self.made = text;
+        outcome?;
+        Ok(Value::Text(made?))
     }
 }

@@ -109,7 +109,7 @@ fn put_text(line: &mut Vec<u8>, end: usize, value: &Value) -> bool
     match value {
         Value::Nothing => true,
         Value::Number(number) => put_number(line, end, *number),
-        Value::Text(text) | Value::Input(text) => put_bytes(line, end, text.as_slice()),
+        Value::Text(text) | Value::Input(text) => text.put_within(line, end),
     }
 }
 

@@ -222,6 +222,21 @@ impl Patterns {
         Ok(pattern.is_match(text))
     }
 
+    /// The same of an ERE of the program, by its number and the text between its slashes, where it was read before: then there is no
+    /// fault. `None` elsewhere. (POSIX awk, Regular Expressions)
+    #[inline(never)]
+    pub fn matches_read(&mut self, number: usize, spelling: &[u8], text: &[u8]) -> Option<bool>
+        ensures { IfSome result (λ holds. matched (pattern_in spelling.now) text.now ≡ Ok holds) }
+    {
+        let Some(Some(kept)) = self.fixed.get_mut(number) else {
+            return None;
+        };
+        if kept.text.as_slice() != spelling {
+            return None;
+        }
+        Some(kept.is_match(text))
+    }
+
     /// How far a text can be passed over by an ERE of the program, by its number and the text between its slashes: no part of it
     /// that ends at or before this place has a match. Nothing is answered where the ERE was not read yet, or no text is known
     /// that stands in each match. Takes no memory. (POSIX awk, Regular Expressions)
