@@ -7,7 +7,7 @@ use Rattle.awk_value.specs.declared.value.Value.{Value}
 use Rattle.awk_value.specs.declared.value.Value.TheVariants.{Nothing}
 use Rattle.awk_streams.specs.WorldState.{WorldState}
 use Rattle.awk_streams.specs.Log.{Event}
-use Rattle.awk_streams.specs.Oracle.{Oracle, how_many, opens_input, opens_output, closes_command, runs}
+use Rattle.awk_streams.specs.Oracle.{Oracle, standing, how_many, opens_input, opens_output, closes_command, runs}
 use Rattle.awk_streams.specs.Orderly.{IsInOrder}
 use Rattle.awk_streams.specs.Openings.{openings, in_order, is_flushed}
 use Rattle.awk_streams.specs.Streams.{StreamsView, AreOpen, AreSound, with_held}
@@ -106,4 +106,5 @@ start_sound k streams is empty order = subst (λ (v : StreamsView). AreSound k v
   once = tt;
   few = omega arith;
   flushed = λ id none. ap (is_flushed id) empty;
+  owned = λ id no_main no_named. ap (standing id) empty;
 }

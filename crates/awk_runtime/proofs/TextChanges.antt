@@ -60,6 +60,14 @@ pub lift_beside : {A : Type 0} {c : Result A Halt} {old new : Runtime} (r : Resu
 unfolding lift
 lift_beside r same e = reads_changes (lift r) (λ s. r) (λ s. refl) same (λ s h. e)
 
+-- what is done behind a change that the definitions don't know
+pub beside_then : {A : Type 0} (run : Run A) {old mid new : Runtime} {r : Result A Halt} → SameState old mid → Changes run mid new r → Changes run old new r
+unfolding lift ◌>>=◌ go_on
+beside_then run same q =
+    let none : ℕ = 0 in
+    let reads = lift_beside {A = ℕ} {c = Ok none} (Ok none) same refl in
+    same_changes run (lift (Ok none) >>= λ _. run) (λ s h. refl) (then_changes (λ _. run) reads q)
+
 -- want of memory where nothing changed that the definitions know
 pub memory_beside : {A : Type 0} (run : Run A) {old new : Runtime} → SameState old new → Changes run old new (Err (halt.Fault OutOfMemory))
 memory_beside run same = memory_changes run same.streams same.beside.names (omega (arith, same.beside.steps))

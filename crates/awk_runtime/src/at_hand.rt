@@ -2,7 +2,6 @@
 
 ghost use Rattle.std.specs.Prelude.{◌≡◌, ◌<◌, ◌-◌, pos, Ok, Some, IfSome, IfNone, slice_get, true, false};
 ghost use Rattle.awk_value.specs.declared.value.Value.TheVariants.{Number, Input, Nothing};
-ghost use Rattle.awk_text.specs.Pieces.{stretch_at, IsSpanOf};
 ghost use Rattle.awk_runtime.specs.support.Simulation.{Changes, Spends};
 ghost use Rattle.awk_storage.specs.declared.position.Place.TheVariants.{Variable as VariablePlace};
 ghost use Rattle.awk_semantics.specs.Primitives.{read_field, set_inside};
@@ -16,32 +15,8 @@ use awk_kinds::Special;
 use awk_lex::token::{AssignmentOperator, IncrementOperator, Operator};
 use awk_semantics::Local;
 use awk_storage::Variable;
-use awk_text::Span;
-use awk_value::{Bytes, Value};
+use awk_value::Value;
 use std::mem;
-
-/// A text that came from outside; `None` where memory is refused.
-#[inline(always)]
-fn input_of(text: &Bytes) -> Option<Value>
-    ensures { IfSome result (λ value. value ≡ Input text.now) }
-{
-    match text.clone() {
-        Ok(text) => Some(Value::Input(text)),
-        Err(_) => None,
-    }
-}
-
-/// A stretch of a text that came from outside; `None` where memory is refused.
-#[inline(always)]
-fn input_in(text: &Bytes, span: Span) -> Option<Value>
-    requires { IsSpanOf text.now span }
-    ensures { IfSome result (λ value. value ≡ Input (stretch_at text.now span)) }
-{
-    match text.cut(span.start, span.end) {
-        Ok(text) => Some(Value::Input(text)),
-        Err(_) => None,
-    }
-}
 
 impl Runtime {
     /// The value that a variable holds, where one is kept: NF is counted, and an array has none.
@@ -113,15 +88,8 @@ impl Runtime {
         ensures some { IfSome result (λ value. Changes (read_field number) self.old self.new (Ok value)) }
         ensures same { self.new ≡ self.old }
     {
-        if number == 0 {
-            if let Some(text) = self.current.text_at_hand() {
-                return input_of(text);
-            }
-        }
-        if let Some(span) = self.current.stretch(number) {
-            if let Some(text) = self.current.text_at_hand() {
-                return input_in(text, span);
-            }
+        if let Some(text) = self.current.cut_field(number) {
+            return Some(Value::Input(text));
         }
         self.any_field(number)
     }

@@ -21,14 +21,16 @@ use awk_storage::Array;
 use awk_value::Value;
 
 impl Runtime {
-    /// The element at the text of a key; `None` where it isn't there.
-    #[inline(never)]
-    pub fn element_at_hand(&self, array: Array, key: &Value) -> Option<Value>
-        ensures { IfSome result (λ value. Changes (read_element_of array (str_of key.now)) self.now self.now (Ok value)) }
+    /// The element at the text of a key, if it is there.
+    #[inline(always)]
+    pub fn element_in(&self, array: Array, key: &Value) -> Option<&Value>
+        ensures { IfSome result (λ value. Changes (read_element_of array (str_of key.now)) self.now self.now (Ok value.now)) }
     {
         let number = self.number_at(array);
-        let value = self.arrays.get(number as usize, key)?;
-        value.clone().ok()
+        match self.arrays.get(number as usize, key) {
+            Some(value) => Some(value),
+            None => None,
+        }
     }
 
     /// Whether there is an element at the text of a key.

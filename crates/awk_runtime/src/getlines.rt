@@ -8,6 +8,7 @@ ghost use Rattle.awk_storage.specs.Forms.{receive_at, receive_main_at, main_getl
 ghost use Rattle.awk_runtime.specs.support.Simulation.{IsReady, Changes, Follows};
 ghost use Rattle.awk_runtime.specs.support.NamedInputs.{answers_of};
 
+use crate::outputs::text_at_hand;
 use crate::runtime::Runtime;
 use awk_kinds::Special;
 use awk_semantics::Halt;
@@ -62,6 +63,31 @@ impl Runtime {
 
     // The next record of a file or a command, by RS; it is opened unless it is open.
     fn next_of<W: World>(
+        &mut self,
+        world: &mut W,
+        kind: InputKind,
+        name: &Value,
+    ) -> Result<NextNamed, Halt>
+        requires named { kind ≢ InputKind.Standard }
+        requires ready { IsReady W.is_logged (W.state world.old) self.old.streams }
+        ensures ready { IsReady W.is_logged (W.state world.new) self.new.streams }
+        ensures follows { Follows W.is_logged (next_of kind (str_of name.now)) self.old (W.state world.old) self.new
+            (W.state world.new) (answers_of result) }
+    {
+        if let Some(name) = text_at_hand(name)
+            && let Some(separator) = text_at_hand(self.specials.special(Special::Rs))
+        {
+            return Ok(
+                self.streams
+                    .next_named(world, kind, name, separator.as_slice())?,
+            );
+        }
+        self.next_of_any(world, kind, name)
+    }
+
+    // The same where the name or RS is no text.
+    #[inline(never)]
+    fn next_of_any<W: World>(
         &mut self,
         world: &mut W,
         kind: InputKind,

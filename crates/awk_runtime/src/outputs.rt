@@ -36,7 +36,7 @@ fn standard_named(name: &[u8]) -> Option<Target>
 
 // The text of a value that is one.
 #[inline(always)]
-fn text_at_hand(value: &Value) -> Option<&Bytes>
+pub(crate) fn text_at_hand(value: &Value) -> Option<&Bytes>
     ensures { IfSome result (λ text. str_of value.now ≡ text.now) }
 {
     match value {

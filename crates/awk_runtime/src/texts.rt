@@ -1,14 +1,15 @@
 // Functions over texts.
 
-ghost use Rattle.std.specs.Prelude.{◌≡◌, ◌++◌, map, Ok, OnOk};
+ghost use Rattle.std.specs.Prelude.{◌≡◌, ◌++◌, pos, map, Ok, OnOk};
 ghost use Rattle.std.specs.List.{concat};
 ghost use Rattle.awk_value.specs.Values.{str_of};
-ghost use Rattle.awk_value.specs.declared.value.Value.TheVariants.{Text};
+ghost use Rattle.awk_value.specs.declared.value.Value.TheVariants.{Number, Text};
 ghost use Rattle.awk_text.specs.Pieces.{stretches_at, AreSpansOf};
 ghost use Rattle.awk_semantics.specs.State.{lift};
 ghost use Rattle.awk_semantics.specs.Operators.{applied, pattern_in};
 ghost use Rattle.awk_semantics.specs.BuiltIns.{applied_all, note_match};
 ghost use Rattle.awk_storage.specs.Forms.{match_in, split_with, substitute_at};
+ghost use Rattle.awk_storage.specs.Positions.{store_at};
 ghost use Rattle.awk_functions.specs.definitions.Matched.{found, exchanged_by};
 ghost use Rattle.awk_functions.specs.definitions.Spelling.{spelling_of, separator_for};
 ghost use Rattle.awk_runtime.specs.support.Naming.{ere_at};
@@ -84,8 +85,13 @@ impl Runtime {
         ensures { Changes (record_tested (ere_at self.old.names ere)) self.old self.new (as_truth result) }
     {
         if let Some(text) = self.current.text_at_hand() {
-            let pattern = operand(&self.names, PatternSource::Ere(ere));
-            return self.patterns.matches_text(text.as_slice(), pattern);
+            let spelling = self.names.ere(ere);
+            if let Some(holds) = self
+                .patterns
+                .matches_read(ere as usize, spelling, text.as_slice())
+            {
+                return Ok(holds);
+            }
         }
         self.made_record_has_match(ere)
     }
@@ -237,7 +243,20 @@ impl Runtime {
             (str_of replacement.now)) self.old self.new result }
     {
         let old = self.record_text()?;
-        let number = Value::Number(0);
-        self.substitute(all, pattern, replacement, Place::Field, &number, &old)
+        match self.exchange(all, pattern, replacement, &old)? {
+            None => Ok(Value::Number(0)),
+            Some(exchanged) => {
+                self.store_record(exchanged.text)?;
+                Ok(Value::Number(exchanged.count as i128))
+            }
+        }
+    }
+
+    // Gives the record a text that was made, as an assignment to `$0` does.
+    #[inline(always)]
+    fn store_record(&mut self, text: Bytes) -> Result<(), Halt>
+        ensures { Changes (store_at self.old.names.scalars Place.Field (Number (pos 0)) (Text text)) self.old self.new result }
+    {
+        self.set_record(text)
     }
 }

@@ -1,6 +1,6 @@
 // Variables, ranges and the exit status.
 
-ghost use Rattle.std.specs.Prelude.{◌≡◌, ◌<◌, ℕ, false, vec_len, unwrap_or, slice_get, OnOk};
+ghost use Rattle.std.specs.Prelude.{◌≡◌, ◌<◌, ℕ, false, vec_len, unwrap_or, slice_get, None, OnOk};
 ghost use Rattle.awk_runtime.specs.support.Simulation.{Changes};
 ghost use Rattle.awk_semantics.specs.Results.{Yields};
 ghost use Rattle.awk_semantics.specs.Inputs.{text_or_fault, assign_text};
@@ -9,6 +9,10 @@ ghost use Rattle.awk_semantics.specs.Primitives.{put_outside, put_special, count
 ghost use Rattle.awk_semantics.specs.Streams.{begin_input, note_input};
 ghost use Rattle.awk_storage.specs.Positions.{read_variable, put_variable, read_local, put_local, read_slot, put_slot};
 ghost use Rattle.awk_lex.specs.Escapes.{unescaped};
+ghost use Rattle.awk_storage.specs.Positions.{assign_by_at};
+ghost use Rattle.awk_storage.specs.declared.position.Place.TheVariants.{Variable as VariablePlace};
+ghost use Rattle.awk_value.specs.declared.value.Value.TheVariants.{Nothing};
+ghost use Rattle.awk_runtime.specs.support.Updates.{Gives};
 
 use crate::names::is_field_count;
 use crate::runtime::Runtime;
@@ -95,6 +99,19 @@ impl Runtime {
             Variable::Global(slot) => self.put_global(slot as usize, value),
             Variable::Local(index) => self.put_local(index, value),
         }
+    }
+
+    /// Gives a variable a value, of which no copy is made. The faults are those of `put_variable`.
+    #[inline(never)]
+    pub fn assign_variable(&mut self, variable: Variable, value: Value) -> Result<(), Halt>
+        ensures { Gives (assign_by_at self.old.names.scalars None (VariablePlace variable) Nothing value) self.old result self.new }
+    {
+        self.put_variable(variable, value)?;
+        if let Some(_) = self.value_in(variable) {
+            return Ok(());
+        }
+        self.read_variable(variable)?;
+        Ok(())
     }
 
     /// Gives a variable of the program a value, by its slot.
