@@ -1,7 +1,8 @@
 -- What the move of a node comes to, by what its part came to.
-use Rattle.std.proofs.Common.{◌≡◌, ◌≢◌, ◌<◌, ℕ, length, sym, ap, arith, Bool, true, false, Option, Some, None, ◌∷◌, drop, Result, Ok, Err, get_or, refl, subst}
+use Rattle.std.proofs.Common.{◌≡◌, ◌≢◌, ◌<◌, ℕ, length, sym, ap, arith, Bool, true, false, Option, Some, None, ◌∷◌, drop, Result, Ok, Err, get_or, slice_get, refl, subst}
 use Rattle.std.specs.Prelude.{if◌then◌else◌}
 use Rattle.awk_value.specs.declared.value.Value.{Value}
+use Rattle.awk_value.specs.declared.value.Value.TheVariants as value
 use Rattle.awk_lex.specs.declared.token.AssignmentOperator.{AssignmentOperator}
 use Rattle.awk_lex.specs.declared.token.IncrementOperator.{IncrementOperator}
 use Rattle.awk_grammar.specs.declared.tree.BinaryOperator.{BinaryOperator}
@@ -12,6 +13,7 @@ use Rattle.awk_storage.specs.declared.position.Array.{Array}
 use Rattle.awk_storage.specs.declared.position.Variable.{Variable}
 use Rattle.awk_storage.specs.declared.position.Place.{Place}
 use Rattle.awk_resolve.specs.declared.node.Operand.{Operand}
+use Rattle.awk_resolve.specs.declared.node.Node.{Node}
 use Rattle.awk_resolve.specs.declared.node.Node.TheVariants as n
 use Rattle.awk_resolve.specs.declared.node.ValueNode.{ValueNode}
 use Rattle.awk_resolve.specs.declared.node.ValueNode.TheVariants as v
@@ -25,11 +27,11 @@ use Rattle.awk_runtime.proofs.Composition.{ready_same, ready_behind}
 use Rattle.awk_evaluator.specs.declared.machine.Machine.{Machine}
 use Rattle.awk_evaluator.specs.declared.machine.Move.{Move}
 use Rattle.awk_evaluator.specs.declared.machine.Move.TheVariants as move
-use Rattle.awk_evaluator.specs.Rest.{PlanStands, tables_in, Start, AtPlace, AtNode}
+use Rattle.awk_evaluator.specs.Rest.{IsSound, PlanStands, tables_in, Start, AtPlace, AtNode}
 use Rattle.awk_evaluator.specs.Moves.{RestOf, Leads, Ends, Upward, Backward, Finishes, MovesBy, Moves, TurnsBy, Turns, StepsBy, Steps, Computes, Evaluates, Performs, GivesBack, PutsFoundBy, PutsFound, Done, came, told, onward, upward, toward}
 use Rattle.awk_evaluator.specs.Reading.{Runs, Compares, Updates, Increments, Appends, PrintsField}
 use Rattle.awk_evaluator.specs.Walks.{PutsKeys, TakesKey}
-use Rattle.awk_evaluator.proofs.Moving.{halts, ready_computed, led_on, led_ends, value_on, value_memory, effect_on, effect_ends, again_on, again_stuck, key_on, key_stuck, walk_on, walk_ends, key_taken, key_ends}
+use Rattle.awk_evaluator.proofs.Moving.{by_place, past_end, halts, ready_computed, led_on, led_ends, value_on, value_memory, effect_on, effect_ends, again_on, again_stuck, key_on, key_stuck, walk_on, walk_ends, key_taken, key_ends}
 use Rattle.awk_evaluator.proofs.Changing.{with_on, with_ends, compared_on, compared_ends, matched_on, matched_ends, assign_on, assign_ends, raise_on, raise_ends, append_on, append_ends, print_on, print_ends, update_on, update_ends, increment_on, increment_ends}
 
 module _ {is_logged : Type 0} {plan : Plan} {m m' : Machine} {k k' : WorldState} {i : ℕ} where
@@ -158,3 +160,34 @@ module _ {is_logged : Type 0} {plan : Plan} {from : Start} {at : ℕ} {m m1 m' :
   stepped (move.Back i) other x = absurd (other i refl)
   stepped move.Over other x = record { steps = over x.turns }
   stepped move.Halted other x = record { steps = led_ends before x.turns }
+
+-- from node to node
+
+no_move : {w : Value} {m m' : Machine} (to : Move) → GivesBack w m to m' → (i : ℕ) → to ≢ move.On i
+no_move (move.On j) g i e = absurd g.gives
+no_move (move.Up j) g i e = cc
+no_move (move.Back j) g i e = cc
+no_move move.Over g i e = cc
+no_move move.Halted g i e = cc
+
+pub led_here : {is_logged : Type 0} {plan : Plan} {at : ℕ} {m : Machine} {k : WorldState} → Leads is_logged plan (AtPlace at) m k at m k
+led_here = record { names = refl; steps = omega arith; leads = λ tables ds stands new after r d. d }
+
+module _ {is_logged : Type 0} {plan : Plan} {from : Start} {at : ℕ} {m m1 : Machine} {k k1 : WorldState} (before : Leads is_logged plan from m k at m1 k1) where
+  -- where a node is next
+  module _ {node : Node} (sound : IsSound plan) (is : Some node ≡ slice_get plan.nodes.items at) where
+    placed : {to : Move} {m' : Machine} {k' : WorldState} → Moves is_logged plan (AtNode node) m1 k1 to m' k' → Moves is_logged plan (AtPlace at) m1 k1 to m' k'
+    placed x = by_place sound (sym is) x
+
+    pub node_turned : {m' : Machine} {k' : WorldState} (to : Move) → ((i : ℕ) → to ≢ move.On i) → m1.calls ≡ m.calls → Moves is_logged plan (AtNode node) m1 k1 to m' k' → Turns is_logged plan from m k to m' k'
+    node_turned to other calls x = turned before to other calls (placed x)
+
+    pub node_led : {i : ℕ} {m' : Machine} {k' : WorldState} → Moves is_logged plan (AtNode node) m1 k1 (move.On i) m' k' → Leads is_logged plan from m k i m' k'
+    node_led x = led_on before (placed x).moves.leads
+
+    pub node_before : {i : ℕ} {m' : Machine} {k' : WorldState} → Moves is_logged plan (AtNode node) m1 k1 (move.On i) m' k' → i < at
+    node_before x = (placed x).moves.less
+
+  -- where none is
+  pub end_turned : {m' : Machine} (to : Move) → m1.calls ≡ m.calls → None ≡ slice_get plan.nodes.items at → GivesBack value.Nothing m1 to m' → Turns is_logged plan from m k to m' k1
+  end_turned to calls none g = turned before to (no_move to g) calls (past_end none g)

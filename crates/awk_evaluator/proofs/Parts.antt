@@ -180,6 +180,30 @@ given_by {a = a} {m = m} {mid = mid} {m' = m'} (Err h) kept g operands calls = r
 pub element_given : {a : Array} {m mid m' : Machine} (r : Result (Unit {0}) Halt) {s : Result (Unit {0}) Halt} → s ≡ without_value r → Keeps mid m' → Gives (assign_by_at m.runtime.names.scalars None (place.Element a) (second m.operands.values) (first m.operands.values)) m.runtime r mid.runtime → mid.operands ≡ record m.operands { values = drop 2 m.operands.values } → mid.calls ≡ m.calls → Done (λ q. Computes (v.Assign assignment.Plain (place.Element a)) m q m') s
 element_given {a = a} {m = m} {mid = mid} {m' = m'} r is kept g operands calls = subst (λ (s : Result (Unit {0}) Halt). Done (λ q. Computes (v.Assign assignment.Plain (place.Element a)) m q m') s) (sym is) (given_by {a = a} {m = m} {mid = mid} {m' = m'} r kept g operands calls)
 
+-- the same of a variable
+
+variable_by : {x : Variable} {m mid m' : Machine} (r : Result (Unit {0}) Halt) → Keeps mid m' → Gives (assign_by_at m.runtime.names.scalars None (place.Variable x) value.Nothing (first m.operands.values)) m.runtime r mid.runtime → mid.operands ≡ record m.operands { values = drop 1 m.operands.values } → mid.calls ≡ m.calls → Done (λ q. Computes (v.Assign assignment.Plain (place.Variable x)) m q m') (without_value r)
+variable_by {x = x} {m = m} {mid = mid} {m' = m'} (Ok u) kept g operands calls = record {
+  done = (
+    g.gives.0,
+    computes_kept {m = m} {m1 = mid} {m' = m'} kept {x = v.Assign assignment.Plain (place.Variable x)} {r = Ok g.gives.0} (record {
+      operands = operands;
+      calls = calls;
+      changes = λ tables functions. subst (λ (run : Run Value). Changes run m.runtime mid.runtime (Ok g.gives.0)) (variable_alike m.runtime.names.scalars None x value.Nothing (second m.operands.values) (first m.operands.values)) g.gives.1;
+    }),
+  );
+}
+variable_by {x = x} {m = m} {mid = mid} {m' = m'} (Err h) kept g operands calls = record {
+  done = computes_kept {m = m} {m1 = mid} {m' = m'} kept {x = v.Assign assignment.Plain (place.Variable x)} {r = Err h} (record {
+    operands = tt;
+    calls = tt;
+    changes = λ tables functions. subst (λ (run : Run Value). Changes run m.runtime mid.runtime (Err h)) (variable_alike m.runtime.names.scalars None x value.Nothing (second m.operands.values) (first m.operands.values)) g.gives;
+  });
+}
+
+pub variable_given : {x : Variable} {m mid m' : Machine} (r : Result (Unit {0}) Halt) {s : Result (Unit {0}) Halt} → s ≡ without_value r → Keeps mid m' → Gives (assign_by_at m.runtime.names.scalars None (place.Variable x) value.Nothing (first m.operands.values)) m.runtime r mid.runtime → mid.operands ≡ record m.operands { values = drop 1 m.operands.values } → mid.calls ≡ m.calls → Done (λ q. Computes (v.Assign assignment.Plain (place.Variable x)) m q m') s
+variable_given {x = x} {m = m} {mid = mid} {m' = m'} r is kept g operands calls = subst (λ (s : Result (Unit {0}) Halt). Done (λ q. Computes (v.Assign assignment.Plain (place.Variable x)) m q m') s) (sym is) (variable_by {x = x} {m = m} {mid = mid} {m' = m'} r kept g operands calls)
+
 -- a number at hand is assigned
 pub number_read : (o : AssignmentOperator) (x : Variable) {a : Operand} {n : ℤ} {m m' : Machine} → IsAtHand a (value.Number n) m → GivesNumber (assign_variable m.runtime.names.scalars o x (value.Number n)) m.runtime m'.runtime → m'.operands ≡ m.operands → m'.calls ≡ m.calls → Done (λ r. AssignsOperand o x a m r m') (Ok tt)
 number_read o x at g operands calls = record { done = (value.Number g.number, record { operands = operands; calls = calls; changes = then_changes _ at.changes g.changes }) }

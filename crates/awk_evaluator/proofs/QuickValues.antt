@@ -1,5 +1,5 @@
 -- Values that are put on the stack quickly.
-use Rattle.std.proofs.Common.{◌≡◌, ◌≢◌, ◌<◌, ℕ, ℤ, pos, Bool, true, List, [], ◌∷◌, drop, length, arith, Option, Some, Result, Ok, Err, refl, sym, ap, ◌∙◌, subst}
+use Rattle.std.proofs.Common.{◌≡◌, ◌≢◌, ◌<◌, ℕ, ℤ, pos, Bool, true, List, [], ◌∷◌, ◌++◌, drop, length, arith, Option, Some, Result, Ok, Err, refl, sym, ap, ◌∙◌, subst}
 use Rattle.std.proofs.Math.Path.{fun_ext}
 use Rattle.std.specs.Prelude.{OnOk, IfSome, is_ok}
 use Rattle.std.specs.Result.{result_ok}
@@ -10,21 +10,24 @@ use Rattle.awk_value.specs.Arithmetic.{product_of, sum_of, difference_of, quotie
 use Rattle.awk_value.specs.Values.{str_of, num_of, number_value, from_numbers}
 use Rattle.awk_lex.specs.declared.token.AssignmentOperator.{AssignmentOperator}
 use Rattle.awk_lex.specs.declared.token.BuiltIn.TheVariants.{Length}
+use Rattle.awk_lex.specs.declared.token.IncrementOperator.{IncrementOperator}
 use Rattle.awk_lex.specs.declared.token.AssignmentOperator.TheVariants as assignment
 use Rattle.awk_lex.specs.declared.token.Operator.{Operator}
 use Rattle.awk_lex.specs.declared.token.Operator.TheVariants as operator
-use Rattle.awk_grammar.specs.declared.tree.BinaryOperator.TheVariants.{Infix}
+use Rattle.awk_grammar.specs.declared.tree.BinaryOperator.TheVariants.{Concatenate, Infix}
 use Rattle.awk_grammar.specs.declared.tree.UnaryOperator.TheVariants as unary
 use Rattle.awk_semantics.specs.declared.halt.Halt.{Halt}
 use Rattle.awk_semantics.specs.State.{Run, ◌>>=◌, lift}
 use Rattle.awk_semantics.specs.Faults.{of_values}
-use Rattle.awk_semantics.specs.Operators.{applied, truth_value}
+use Rattle.awk_semantics.specs.Operators.{applied, truth_value, by_one, operator_of}
 use Rattle.awk_semantics.specs.Primitives.{read_field, number_of}
 use Rattle.awk_semantics.specs.Semantics.{Functions}
 use Rattle.awk_storage.specs.declared.position.Array.{Array}
 use Rattle.awk_storage.specs.declared.position.Place.{Place}
+use Rattle.awk_storage.specs.declared.position.Place.TheVariants as place
+use Rattle.awk_storage.specs.declared.position.Variable.{Variable}
 use Rattle.awk_storage.specs.Forms.{contains_at}
-use Rattle.awk_storage.specs.Positions.{read_at, assign_at, assign_by_at}
+use Rattle.awk_storage.specs.Positions.{read_at, read_element_of, assign_at, assign_by_at, post_increment_at}
 use Rattle.awk_resolve.specs.declared.node.Operand.{Operand}
 use Rattle.awk_resolve.specs.declared.node.Operand.TheVariants as operand
 use Rattle.awk_resolve.specs.declared.node.ValueNode.{ValueNode}
@@ -34,8 +37,10 @@ use Rattle.awk_runtime.specs.declared.runtime.Runtime.{Runtime}
 use Rattle.awk_runtime.specs.Simulation.{Changes}
 use Rattle.awk_runtime.proofs.Composition.{then_changes, lift_changes}
 use Rattle.awk_evaluator.specs.declared.machine.Machine.{Machine}
+use Rattle.awk_evaluator.specs.Operands.{OperandsView}
 use Rattle.awk_evaluator.specs.Rest.{tables_in}
 use Rattle.awk_evaluator.specs.Quick.{IsAtHand, Puts, Pushed, AssignsAlike}
+use Rattle.awk_evaluator.proofs.Changing.{variable_alike}
 use Rattle.awk_evaluator.proofs.Computing.{drop_two, made_of}
 
 -- operands that are at hand
@@ -167,3 +172,48 @@ alike_by a v (Err f) other e = tt
 
 pub number_alike : (a : AssignmentOperator) (v : Value) (found : Option ℤ) → a ≢ assignment.Plain → found ≡ result_ok (num_of v) → IfSome found (λ n. AssignsAlike a v (value.Number n))
 number_alike a v found other e = subst (λ (o : Option ℤ). IfSome o (λ n. AssignsAlike a v (value.Number n))) (sym e) (alike_by a v (num_of v) other refl)
+
+-- what is changed where it stands, and put on the stack
+
+post_alike : (names : List (List ℕ)) (o : IncrementOperator) (x : Variable) (operand operand' : Value) → post_increment_at names o (place.Variable x) operand ≡ post_increment_at names o (place.Variable x) operand'
+unfolding post_increment_at
+post_alike names o x operand operand' = refl
+
+module _ {m m' : Machine} (o : OperandsView) (pushed : o ≡ record m.operands { values = value.Nothing ∷ m.operands.values }) {z : ℤ} (replaced : m'.operands ≡ record o { values = value.Number z ∷ drop 1 o.values }) (calls : m'.calls ≡ m.calls) where
+  pub raised_puts : (a : IncrementOperator) (x : Variable) → Changes (post_increment_at m.runtime.names.scalars a (place.Variable x) value.Nothing) m.runtime m'.runtime (Ok (value.Number z)) → Puts (v.PostIncrement a (place.Variable x)) m m'
+  raised_puts a x h = record {
+    value = value.Number z;
+    operands = replaced ∙ ap (λ (s : OperandsView). record s { values = value.Number z ∷ drop 1 s.values }) pushed;
+    calls = calls;
+    changes = λ tables functions. subst (λ (run : Run Value). Changes run m.runtime m'.runtime (Ok (value.Number z))) (post_alike m.runtime.names.scalars a x value.Nothing (first m.operands.values)) h;
+  }
+
+  pub raised_first_puts : (a : IncrementOperator) (x : Variable) → Changes (assign_by_at m.runtime.names.scalars (Some (by_one a)) (place.Variable x) value.Nothing (value.Number (pos 1))) m.runtime m'.runtime (Ok (value.Number z)) → Puts (v.PreIncrement a (place.Variable x)) m m'
+  raised_first_puts a x h = record {
+    value = value.Number z;
+    operands = replaced ∙ ap (λ (s : OperandsView). record s { values = value.Number z ∷ drop 1 s.values }) pushed;
+    calls = calls;
+    changes = λ tables functions. subst (λ (run : Run Value). Changes run m.runtime m'.runtime (Ok (value.Number z))) (variable_alike m.runtime.names.scalars (Some (by_one a)) x value.Nothing (first m.operands.values) (value.Number (pos 1))) h;
+  }
+
+pub assigned_puts : {m m' : Machine} {n z : ℤ} (a : AssignmentOperator) (x : Variable) → first m.operands.values ≡ value.Number n → Changes (assign_by_at m.runtime.names.scalars (operator_of a) (place.Variable x) value.Nothing (value.Number n)) m.runtime m'.runtime (Ok (value.Number z))
+    → m'.operands ≡ record m.operands { values = value.Number z ∷ drop 1 m.operands.values } → m'.calls ≡ m.calls → Puts (v.Assign a (place.Variable x)) m m'
+assigned_puts {m = m} {m' = m'} {z = z} a x top h operands calls = record {
+  value = value.Number z;
+  operands = operands;
+  calls = calls;
+  changes = λ tables functions. rw top (subst (λ (run : Run Value). Changes run m.runtime m'.runtime (Ok (value.Number z))) (variable_alike m.runtime.names.scalars (operator_of a) x value.Nothing (second m.operands.values) (value.Number _)) h);
+}
+
+-- the texts of two operands at hand
+pub joined_puts : {m m' : Machine} {a b : Operand} {x y w : Value} → IsAtHand a x m → IsAtHand b y m → w ≡ value.Text (str_of x ++ str_of y) → Pushed w m m' → Puts (v.OperateOn Concatenate a b) m m'
+joined_puts {m = m} left right is p = pushed_puts refl (λ tables functions. then_changes _ left.changes (then_changes _ right.changes (lift_changes _ m.runtime (ap Ok (sym is))))) p
+
+-- an element that is there
+pub element_puts : {m m' : Machine} {a : Array} {key w : Value} → key ≡ first m.operands.values → Changes (read_element_of a (str_of key)) m.runtime m.runtime (Ok w) → m'.operands ≡ record m.operands { values = w ∷ drop 1 m.operands.values } → m'.calls ≡ m.calls → m'.runtime ≡ m.runtime → Puts (v.ReadElement a) m m'
+element_puts {m = m} {a = a} {w = w} top h operands calls runtime = record {
+  value = w;
+  operands = operands;
+  calls = calls;
+  changes = λ tables functions. rw runtime (subst (λ (k : Value). Changes (read_element_of a (str_of k)) m.runtime m.runtime (Ok w)) top h);
+}

@@ -7,6 +7,7 @@ ghost use Rattle.awk_evaluator.specs.Rest.{IsSound, AtPlace};
 ghost use Rattle.awk_evaluator.specs.Moves.{IsIdle, Turns, Steps, Ends, Done, Executes, Keeps, came, told, without_value, truth_in};
 
 use crate::calls::Calls;
+use crate::moves::node_at;
 use crate::operands::Operands;
 use awk_resolve::Plan;
 use awk_runtime::Runtime;
@@ -124,10 +125,17 @@ impl Machine {
         ensures turns { Turns W.is_logged plan.now (AtPlace start) self.old (W.state world.old) result self.new (W.state world.new) }
     {
         let mut at = start;
+        let Some(mut node) = node_at(plan, at) else {
+            return self.give_nothing();
+        };
         'moves: loop {
-            match self.make_move(world, plan, at) {
+            match self.make_move(world, plan, node) {
                 Move::On(next) => at = next,
                 other => return other,
+            }
+            match node_at(plan, at) {
+                Some(following) => node = following,
+                None => return self.give_nothing(),
             }
         }
     }

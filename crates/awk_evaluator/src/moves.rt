@@ -4,8 +4,9 @@ ghost use Rattle.std.specs.Prelude.{◌≡◌, ◌<◌, if◌then◌else◌, Som
 ghost use Rattle.std.specs.Option.{option_map};
 ghost use Rattle.awk_runtime.specs.Simulation.{IsReady};
 ghost use Rattle.awk_value.specs.declared.value.Value.TheVariants.{Nothing};
-ghost use Rattle.awk_resolve.specs.Nodes.{first};
-ghost use Rattle.awk_evaluator.specs.Rest.{IsSound, AtPlace, AtNode};
+ghost use Rattle.awk_resolve.specs.Nodes.{CallsFit, first};
+ghost use Rattle.awk_resolve.specs.Plans.{array_parameters};
+ghost use Rattle.awk_evaluator.specs.Rest.{IsSound, AtNode};
 ghost use Rattle.awk_evaluator.specs.Moves.{IsRare, Moves, GivesBack, onward, upward, toward};
 
 use crate::machine::{Machine, Move};
@@ -80,49 +81,47 @@ fn toward(holds: Option<bool>, here: u32, other: u32) -> Move
 impl Machine {
     /// One move. What a node does is decided here, once: what is at hand is done in line, and all else by functions of their own.
     #[inline(always)]
-    pub(crate) fn make_move<W: World>(&mut self, world: &mut W, plan: &Plan, at: u32) -> Move
+    pub(crate) fn make_move<W: World>(&mut self, world: &mut W, plan: &Plan, node: &Node) -> Move
         requires sound { IsSound plan.now }
+        requires calls { CallsFit (array_parameters plan.now.functions.items) node.now }
         requires ready { IsReady W.is_logged (W.state world.old) self.old.runtime.streams }
         ensures ready { IsReady W.is_logged (W.state world.new) self.new.runtime.streams }
-        ensures moves { Moves W.is_logged plan.now (AtPlace at) self.old (W.state world.old) result self.new (W.state world.new) }
+        ensures moves { Moves W.is_logged plan.now (AtNode node.now) self.old (W.state world.old) result self.new (W.state world.new) }
     {
-        match node_at(plan, at) {
-            Some(Node::Value(value, next)) => self.put_value(world, plan, value, *next),
-            Some(Node::Effect(effect, next)) => onward(self.perform(world, effect), *next),
-            Some(Node::Test(here, other)) => Move::On(chosen(self.test(), *here, *other)),
-            Some(Node::CompareWith(operator, right, here, other)) => {
+        match node {
+            Node::Value(value, next) => self.put_value(world, plan, value, *next),
+            Node::Effect(effect, next) => onward(self.perform(world, effect), *next),
+            Node::Test(here, other) => Move::On(chosen(self.test(), *here, *other)),
+            Node::CompareWith(operator, right, here, other) => {
                 toward(self.compare_with(*operator, right), *here, *other)
             }
-            Some(Node::Compare(operator, left, right, here, other)) => {
+            Node::Compare(operator, left, right, here, other) => {
                 toward(self.compare(*operator, left, right), *here, *other)
             }
-            Some(Node::MatchRecord(ere, here, other)) => {
+            Node::MatchRecord(ere, here, other) => {
                 toward(self.match_record(*ere), *here, *other)
             }
-            Some(Node::TestInside(number, here, other)) => {
+            Node::TestInside(number, here, other) => {
                 let inside = self.runtime.is_inside(*number as usize);
                 Move::On(chosen(inside, *here, *other))
             }
-            Some(Node::Assign(operator, place, next)) => {
+            Node::Assign(operator, place, next) => {
                 onward(self.assign_to(*operator, place), *next)
             }
-            Some(Node::Raise(operator, place, next)) => {
-                onward(self.raise(*operator, place), *next)
-            }
-            Some(Node::Update(operator, variable, operand, next)) => {
+            Node::Raise(operator, place, next) => onward(self.raise(*operator, place), *next),
+            Node::Update(operator, variable, operand, next) => {
                 onward(self.update(*operator, variable, operand), *next)
             }
-            Some(Node::Increment(operator, variable, next)) => {
+            Node::Increment(operator, variable, next) => {
                 onward(self.increment(*operator, variable), *next)
             }
-            Some(Node::Again(number)) => {
+            Node::Again(number) => {
                 let head = head_of(plan, *number);
                 upward(self.spend(), head)
             }
-            Some(Node::Return) => self.give_back(),
-            Some(Node::End) => self.give_nothing(),
-            None => self.give_nothing(),
-            Some(node) => self.make_rare_move(world, plan, node),
+            Node::Return => self.give_back(),
+            Node::End => self.give_nothing(),
+            _ => self.make_rare_move(world, plan, node),
         }
     }
 
@@ -182,7 +181,7 @@ impl Machine {
 
     /// Gives back that there is no value.
     #[inline(never)]
-    fn give_nothing(&mut self) -> Move
+    pub(crate) fn give_nothing(&mut self) -> Move
         ensures { GivesBack Nothing self.old result self.new }
     {
         self.operands.drop_all();

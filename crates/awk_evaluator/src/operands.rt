@@ -1,6 +1,6 @@
 // The operands: one stack of values for all active calls, of which the newest call sees its own alone.
 
-ghost use Rattle.std.specs.Prelude.{◌≡◌, ◌≤◌, ◌<◌, ◌-◌, IfSome, max, [], ◌∷◌, length, drop, take, reverse, get_or, unwrap_or, IfOk, OnOk, OnErr};
+ghost use Rattle.std.specs.Prelude.{◌≡◌, ◌≤◌, ◌<◌, ◌-◌, IfSome, true, false, max, [], ◌∷◌, length, drop, take, reverse, get_or, unwrap_or, IfOk, OnOk, OnErr};
 ghost use Rattle.std.specs.Option.{option_map};
 ghost use Rattle.awk_value.specs.declared.value.Value.TheVariants.{Nothing, Number};
 ghost use Rattle.awk_resolve.specs.Nodes.{first, second, taken};
@@ -59,6 +59,18 @@ impl Operands {
     {
         self.values.push(value)?;
         Ok(())
+    }
+
+    /// Puts a copy of a value on top. `false`, and nothing changes, where memory is refused.
+    #[inline(never)]
+    pub fn push_copy(&mut self, value: &Value) -> bool
+        ensures pushed { result ≡ true → self.new ≡ record self.old { values = value.now ∷ self.old.values } }
+        ensures unchanged { result ≡ false → self.new ≡ self.old }
+    {
+        let Ok(copy) = value.clone() else {
+            return false;
+        };
+        self.push(copy).is_ok()
     }
 
     /// Takes the topmost value off; nothing, where there is none.
@@ -186,6 +198,34 @@ impl Operands {
     {
         let last = self.values.len() - 1;
         self.values[last] = value;
+    }
+
+    /// Puts a copy of a value in the place of the topmost one. `false`, and nothing changes, where memory is refused.
+    #[inline(never)]
+    pub fn replace_by_copy(&mut self, value: &Value) -> bool
+        requires { 0 < length self.old.values }
+        ensures replaced { result ≡ true → self.new ≡ record self.old { values = value.now ∷ drop 1 self.old.values } }
+        ensures unchanged { result ≡ false → self.new ≡ self.old }
+    {
+        let Ok(copy) = value.clone() else {
+            return false;
+        };
+        self.replace(copy);
+        true
+    }
+
+    /// Puts a number in the place of the topmost value. One that is a number is no more than overwritten.
+    #[inline(always)]
+    pub fn replace_by(&mut self, n: i128)
+        requires { 0 < length self.old.values }
+        ensures { self.new ≡ record self.old { values = Number n ∷ drop 1 self.old.values } }
+    {
+        let last = self.values.len() - 1;
+        if let Value::Number(old) = &mut self.values[last] {
+            *old = n;
+            return;
+        }
+        self.values[last] = Value::Number(n);
     }
 
     /// Takes so many values off, however many that are.

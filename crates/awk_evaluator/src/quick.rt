@@ -315,9 +315,12 @@ impl Machine {
         if self.assign_as_number_in(operator, place) {
             return true;
         }
-        if let Place::Element(array) = place {
-            if let AssignmentOperator::Plain = operator {
+        if let AssignmentOperator::Plain = operator {
+            if let Place::Element(array) = place {
                 return self.assign_in(*array);
+            }
+            if let Place::Variable(variable) = place {
+                return self.assign_variable(*variable);
             }
         }
         let assigned = self.assign(operator, *place);
@@ -334,6 +337,15 @@ impl Machine {
         let assigned = self.runtime.assign_element(array, key, value);
         drop(nothing);
         self.operands.drop(1);
+        self.is_done(assigned)
+    }
+
+    /// Assigns the topmost value to a variable, which isn't read again.
+    fn assign_variable(&mut self, variable: Variable) -> bool
+        ensures { Done (λ r. Computes (Assign AssignmentOperator.Plain (Place.Variable variable)) self.old r self.new) (came result self.new) }
+    {
+        let value = self.operands.pop();
+        let assigned = self.runtime.assign_variable(variable, value);
         self.is_done(assigned)
     }
 

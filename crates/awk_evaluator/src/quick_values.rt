@@ -1,20 +1,22 @@
 // Values that are at hand, put on the stack. Where one can't be put there so, nothing changes.
 
-ghost use Rattle.std.specs.Prelude.{◌≡◌, pos, length, IfSome, true, false};
+ghost use Rattle.std.specs.Prelude.{◌≡◌, pos, length, Ok, IfSome, true, false};
 ghost use Rattle.awk_value.specs.Values.{str_of};
 ghost use Rattle.awk_value.specs.declared.value.Value.TheVariants.{Number};
 ghost use Rattle.awk_lex.specs.declared.token.BuiltIn.TheVariants.{Length};
-ghost use Rattle.awk_grammar.specs.declared.tree.BinaryOperator.TheVariants.{Infix};
+ghost use Rattle.awk_grammar.specs.declared.tree.BinaryOperator.TheVariants.{Concatenate, Infix};
 ghost use Rattle.awk_grammar.specs.declared.tree.UnaryOperator.TheVariants.{Minus as Negative};
-ghost use Rattle.awk_resolve.specs.declared.node.ValueNode.TheVariants.{Push, Read, Operate, OperateWith, OperateOn, Change, ReadField, ReadFieldAt, ReadElement, Contains, Apply};
+ghost use Rattle.awk_resolve.specs.declared.node.ValueNode.TheVariants.{Push, Read, Operate, OperateWith, OperateOn, Change, ReadField, ReadFieldAt, ReadElement, Contains, Apply, Assign, PreIncrement, PostIncrement};
+ghost use Rattle.awk_storage.specs.Positions.{read_variable};
+ghost use Rattle.awk_runtime.specs.Simulation.{Changes};
 ghost use Rattle.awk_evaluator.specs.Quick.{IsAtHand, Puts, Pushed};
 
 use crate::machine::Machine;
-use awk_functions::{apply_in_short, truth_value};
+use awk_functions::{apply_in_short, by_one, concatenate, operator_of, truth_value};
 use awk_grammar::tree::{BinaryOperator, UnaryOperator};
-use awk_lex::token::{BuiltIn, Operator};
+use awk_lex::token::{AssignmentOperator, BuiltIn, IncrementOperator, Operator};
 use awk_resolve::node::{Operand, ValueNode};
-use awk_storage::{Array, Variable};
+use awk_storage::{Array, Place, Variable};
 use awk_value::Value;
 
 /// The length of a value that is a text.
@@ -46,12 +48,24 @@ impl Machine {
             ValueNode::OperateOn(BinaryOperator::Infix(operator), left, right) => {
                 self.put_operated_on(*operator, left, right)
             }
+            ValueNode::OperateOn(BinaryOperator::Concatenate, left, right) => {
+                self.put_joined(left, right)
+            }
             ValueNode::Change(UnaryOperator::Minus) => self.put_negated(),
             ValueNode::ReadField => self.put_field(),
             ValueNode::ReadFieldAt(number) => self.put_field_at(number),
             ValueNode::ReadElement(array) => self.put_element(*array),
             ValueNode::Contains(array) => self.put_contains(*array),
             ValueNode::Apply(BuiltIn::Length, count) => self.put_length(*count),
+            ValueNode::PostIncrement(operator, Place::Variable(variable)) => {
+                self.put_raised(*operator, variable)
+            }
+            ValueNode::PreIncrement(operator, Place::Variable(variable)) => {
+                self.put_raised_first(*operator, variable)
+            }
+            ValueNode::Assign(operator, Place::Variable(variable)) => {
+                self.put_assigned(*operator, variable)
+            }
             _ => false,
         }
     }
@@ -108,19 +122,7 @@ impl Machine {
         if let Value::Number(n) = value {
             return self.put(*n);
         }
-        self.put_copy(value)
-    }
-
-    /// Puts a copy of a value on the stack.
-    #[inline(never)]
-    fn put_copy(&mut self, value: &Value) -> bool
-        ensures puts { result ≡ true → Puts (Push value.now) self.old self.new }
-        ensures kept { result ≡ false → self.new ≡ self.old }
-    {
-        match value.clone() {
-            Ok(copy) => self.operands.push(copy).is_ok(),
-            Err(_) => false,
-        }
+        self.operands.push_copy(value)
     }
 
     /// Puts the value of a variable on the stack.
@@ -129,10 +131,23 @@ impl Machine {
         ensures puts { result ≡ true → Puts (Read variable.now) self.old self.new }
         ensures kept { result ≡ false → self.new ≡ self.old }
     {
-        if let Some(n) = self.runtime.number_in(*variable) {
+        if let Some(n) = self.number_of_variable(variable) {
             return self.put(n);
         }
         self.put_copy_of(variable)
+    }
+
+    /// The number that a variable is, if it is one that is known.
+    #[inline(always)]
+    fn number_of_variable(&self, variable: &Variable) -> Option<i128>
+        ensures { IfSome result (λ n. Changes (read_variable self.now.runtime.names.scalars variable.now) self.now.runtime self.now.runtime (Ok (Number n))) }
+    {
+        match variable {
+            Variable::Global(slot) => self.runtime.number_in_slot(*slot),
+            Variable::Local(index) => self.runtime.number_of_parameter(*index),
+            Variable::FieldCount => self.runtime.known_count(),
+            Variable::Special(special) => self.runtime.number_of_special(*special),
+        }
     }
 
     /// Puts a copy of the value of a variable on the stack.
@@ -141,13 +156,13 @@ impl Machine {
         ensures puts { result ≡ true → Puts (Read variable.now) self.old self.new }
         ensures kept { result ≡ false → self.new ≡ self.old }
     {
-        let Some(value) = self.runtime.value_in(*variable) else {
+        if let Some(value) = self.runtime.value_in(*variable) {
+            return self.operands.push_copy(value);
+        }
+        let Some(n) = self.runtime.number_in(*variable) else {
             return false;
         };
-        match value.clone() {
-            Ok(copy) => self.operands.push(copy).is_ok(),
-            Err(_) => false,
-        }
+        self.put(n)
     }
 
     /// Puts what an operator makes of two values that are numbers in their place.
@@ -166,7 +181,7 @@ impl Machine {
             return false;
         };
         self.operands.pop();
-        self.operands.replace(Value::Number(z));
+        self.operands.replace_by(z);
         true
     }
 
@@ -185,7 +200,7 @@ impl Machine {
         let Some(z) = apply_in_short(operator, m, n) else {
             return false;
         };
-        self.operands.replace(Value::Number(z));
+        self.operands.replace_by(z);
         true
     }
 
@@ -207,6 +222,24 @@ impl Machine {
         self.put(z)
     }
 
+    /// Puts the texts of two operands, one behind the other, on the stack.
+    #[inline(never)]
+    fn put_joined(&mut self, left: &Operand, right: &Operand) -> bool
+        ensures puts { result ≡ true → Puts (OperateOn Concatenate left.now right.now) self.old self.new }
+        ensures kept { result ≡ false → self.new ≡ self.old }
+    {
+        let Some(front) = self.value_at(left) else {
+            return false;
+        };
+        let Some(behind) = self.value_at(right) else {
+            return false;
+        };
+        let Ok(text) = concatenate(self.runtime.alloc, front, behind) else {
+            return false;
+        };
+        self.operands.push(text).is_ok()
+    }
+
     /// Puts the number with the other sign in the place of a number.
     #[inline(always)]
     fn put_negated(&mut self) -> bool
@@ -219,7 +252,7 @@ impl Machine {
         let Some(z) = n.checked_neg() else {
             return false;
         };
-        self.operands.replace(Value::Number(z));
+        self.operands.replace_by(z);
         true
     }
 
@@ -263,11 +296,14 @@ impl Machine {
         let Some(key) = self.operands.top() else {
             return false;
         };
-        let Some(value) = self.runtime.element_at_hand(array, key) else {
+        let Some(value) = self.runtime.element_in(array, key) else {
             return false;
         };
-        self.operands.replace(value);
-        true
+        if let Value::Number(n) = value {
+            self.operands.replace_by(*n);
+            return true;
+        }
+        self.operands.replace_by_copy(value)
     }
 
     /// Puts whether there is an element at the key on top in its place.
@@ -281,6 +317,60 @@ impl Machine {
         };
         let is_there = self.runtime.has_element(array, key);
         self.operands.replace(truth_value(is_there));
+        true
+    }
+
+    /// Raises or lowers a variable's number by 1, and puts the number that it had on the stack.
+    #[inline(never)]
+    fn put_raised(&mut self, operator: IncrementOperator, variable: &Variable) -> bool
+        ensures puts { result ≡ true → Puts (PostIncrement operator (Place.Variable variable.now)) self.old self.new }
+        ensures kept { result ≡ false → self.new ≡ self.old }
+    {
+        let Ok(()) = self.operands.push(Value::Nothing) else {
+            return false;
+        };
+        let Some(n) = self.runtime.raise_number(operator, *variable) else {
+            self.operands.pop();
+            return false;
+        };
+        self.operands.replace(Value::Number(n));
+        true
+    }
+
+    /// Raises or lowers a variable's number by 1, and puts it on the stack.
+    #[inline(never)]
+    fn put_raised_first(&mut self, operator: IncrementOperator, variable: &Variable) -> bool
+        ensures puts { result ≡ true → Puts (PreIncrement operator (Place.Variable variable.now)) self.old self.new }
+        ensures kept { result ≡ false → self.new ≡ self.old }
+    {
+        let Ok(()) = self.operands.push(Value::Nothing) else {
+            return false;
+        };
+        let operator = by_one(operator);
+        let Some(n) = self.runtime.assign_number(Some(operator), *variable, 1) else {
+            self.operands.pop();
+            return false;
+        };
+        self.operands.replace(Value::Number(n));
+        true
+    }
+
+    /// Assigns the topmost number to a variable, and puts what that then holds in its place.
+    #[inline(never)]
+    fn put_assigned(&mut self, operator: AssignmentOperator, variable: &Variable) -> bool
+        ensures puts { result ≡ true → Puts (Assign operator (Place.Variable variable.now)) self.old self.new }
+        ensures kept { result ≡ false → self.new ≡ self.old }
+    {
+        let Some(n) = self.operands.number() else {
+            return false;
+        };
+        let Some(z) = self
+            .runtime
+            .assign_number(operator_of(operator), *variable, n)
+        else {
+            return false;
+        };
+        self.operands.replace_by(z);
         true
     }
 

@@ -9,6 +9,6 @@ pub returns-clause-puts : goal.returns-clause-puts
 returns-clause-puts c = λ _.
     let number : to_z w128 (of_z w128 c.in-Some.n) ≡ c.in-Some.n = search rules in
     let made : to_z w128 (of_z w128 c.in-Some-checked_neg.z) ≡ c.in-Some-checked_neg.z = search rules in
-    let replaced = c.replace.ensures in
+    let replaced = c.replace_by.ensures in
     let e : negative_of c.in-Some.n ≡ Ok c.in-Some-checked_neg.z = grind (arith, in_range, number, c.in-Some-checked_neg.ensures) in
     negated_puts c.in-Some.n c.in-Some.ensures e (rw made at replaced) refl refl

@@ -11,5 +11,5 @@ returns-clause-puts c = λ _.
     let right : to_z w128 (of_z w128 c.in-Some-number.n) ≡ c.in-Some-number.n = search rules in
     let made : to_z w128 (of_z w128 c.in-Some-apply_in_short.z) ≡ c.in-Some-apply_in_short.z = search rules in
     let applied = c.in-Some-apply_in_short.ensures in
-    let replaced = c.replace.ensures in
+    let replaced = c.replace_by.ensures in
     operated_puts c.in-Some.ensures c.in-Some-number.ensures (rw (left, right) at applied) ((rw made at replaced) ∙ ap (λ (o : OperandsView). record o { values = Number c.in-Some-apply_in_short.z ∷ drop 1 o.values }) c.pop.ensures.rest) refl refl

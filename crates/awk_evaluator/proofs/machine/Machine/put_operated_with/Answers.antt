@@ -9,5 +9,5 @@ returns-clause-puts c = λ _.
     let right : to_z w128 (of_z w128 c.in-Some-number_at.n) ≡ c.in-Some-number_at.n = search rules in
     let made : to_z w128 (of_z w128 c.in-Some-apply_in_short.z) ≡ c.in-Some-apply_in_short.z = search rules in
     let applied = c.in-Some-apply_in_short.ensures in
-    let replaced = c.replace.ensures in
+    let replaced = c.replace_by.ensures in
     operated_with_puts refl c.in-Some.ensures c.in-Some-number_at.ensures (rw (left, right) at applied) (rw made at replaced) refl refl

@@ -1,4 +1,4 @@
-use Rattle.std.proofs.Common.{◌≡◌}
+use Rattle.std.proofs.Common.{◌≡◌, Some, slice_get}
 use Rattle.awk_runtime.specs.Simulation.{IsReady}
 use Rattle.awk_evaluator.specs.Rest.{AtPlace}
 use Rattle.awk_evaluator.specs.Moves.{Leads}
@@ -11,6 +11,7 @@ invariant-moves g l =
       ready : IsReady g.W.World.is_logged (state l.world) l.self.runtime.streams;
       leads : Leads g.W.World.is_logged l.plan (AtPlace l.fn.start) l.fn.self (state l.fn.world) l.at l.self (state l.world);
       calls : l.self.calls ≡ l.fn.self.calls;
+      here : Some l.node ≡ slice_get l.plan.nodes.items l.at;
     }
 
 abbrev pub decreases-moves : goal.decreases-moves
