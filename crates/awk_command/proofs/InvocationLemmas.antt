@@ -19,8 +19,11 @@ says_only : (line : List ℕ) (k k' : WorldState) → ReportsLine line k k' → 
 says_only line k k' says = (_, says.writes)
 
 why_only : (why : NotRun) (k k' : WorldState) → ReportsNotRun why k k' → OnlyWritesTo 1 k.log k'.log
-why_only why k k' (inl says) = says_only _ k k' says
-why_only why k k' (inr says) = says_only _ k k' says
+why_only (Refused refusal) k k' (inl says) = says_only _ k k' says
+why_only (Refused refusal) k k' (inr says) = says_only _ k k' says
+why_only Usage k k' says = says_only _ k k' says
+why_only NotReadable k k' says = says_only _ k k' says
+why_only Memory k k' says = says_only _ k k' says
 
 -- where nothing was run and nothing was done before the line
 untouched_refusal : (is_logged : Type 0) (before left after : WorldState) (status : ℕ) (outcome : Result Outcome NotRun) (why : NotRun) → outcome ≡ Err why → left ≡ before → status ≡ status_after outcome → (is_logged → Reports outcome left after) → OnlyReports is_logged before status after

@@ -42,4 +42,5 @@ ReportsOutcome outcome before after = ReportsIfAny (line_of outcome) before afte
 
 -- where there is no memory to tell of a refusal, that is told
 abbrev pub ReportsNotRun : NotRun → WorldState → WorldState → Type 0
-ReportsNotRun why before after = ReportsLine (line_for why) before after ⊎ ReportsLine out_of_memory before after
+ReportsNotRun (Refused refusal) before after = ReportsLine (line_for (Refused refusal)) before after ⊎ ReportsLine out_of_memory before after
+ReportsNotRun why before after = ReportsLine (line_for why) before after
