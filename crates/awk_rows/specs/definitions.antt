@@ -1,0 +1,3 @@
+pub mod Outside
+pub mod Row
+pub mod Refusal
