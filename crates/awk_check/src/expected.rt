@@ -39,12 +39,14 @@ pub(crate) fn numbered(kind: Kind, number: usize) -> Token {
 }
 
 /// Where tokens whose lines are their numbers, from 1, are refused as no program: the number of the token.
-pub(crate) fn refused_at(alloc: Global, tokens: &[Token]) -> Option<usize> {
+pub(crate) fn refused_at(alloc: Global, tokens: &[Token]) -> Result<Option<usize>, AllocError> {
     match parse(alloc, tokens) {
-        Err(refusal) if refusal.code == RefusalCode::NotAProgram => {
-            usize::try_from(refusal.line).ok()
-        }
-        _ => None,
+        Err(refusal) => match refusal.code {
+            RefusalCode::NotAProgram => Ok(usize::try_from(refusal.line).ok()),
+            RefusalCode::OutOfMemory => Err(AllocError),
+            _ => Ok(None),
+        },
+        Ok(_) => Ok(None),
     }
 }
 
@@ -53,7 +55,7 @@ fn fits(alloc: Global, tokens: &mut Vec<Token>, kind: Kind) -> Result<bool, Allo
     let number = tokens.len().saturating_add(1);
     tokens.push(numbered(kind, number))?;
     tokens.push(numbered(Kind::Newline, number.saturating_add(1)))?;
-    let refused = refused_at(alloc, tokens.as_slice());
+    let refused = refused_at(alloc, tokens.as_slice())?;
     let _ = tokens.pop();
     let _ = tokens.pop();
     Ok(refused != Some(number))

@@ -6,6 +6,8 @@ mod pieces;
 mod refused;
 mod verdict;
 
-pub use awk_findings::{Finding, Place, Source, assignment_finding, write_finding};
-pub use pieces::may_run_on_pieces;
+pub use awk_findings::{
+    Finding, Note, Place, Severity, Source, add_visible, assignment_finding, write_findings,
+};
+pub use pieces::{PiecesReport, check_pieces, may_run_on_pieces};
 pub use verdict::{Report, check, status};

@@ -2,8 +2,8 @@
 
 use crate::expected::{expected_behind, numbered, refused_at};
 use awk_findings::{
-    Finding, Place, last_open, lexical_finding, name_finding, pattern_finding, plain_finding,
-    syntax_advice, syntax_finding,
+    Finding, Place, last_open, lexical_finding, name_finding, open_list, pattern_finding,
+    plain_finding, syntax_advice, syntax_finding,
 };
 use awk_lex::lexer::tokens;
 use awk_lex::refusal::{Refusal, RefusalCode};
@@ -21,15 +21,15 @@ fn number_all(tokens: &mut Vec<Token>) {
     }
 }
 
-/// The tokens of a text whose lines are their numbers.
-fn numbered_tokens(alloc: Global, text: &[u8]) -> Option<Vec<Token>> {
+/// The tokens of a text that is a list of them; their lines are their numbers.
+fn numbered_tokens(alloc: Global, text: &[u8]) -> Result<Vec<Token>, AllocError> {
     match tokens(alloc, text) {
         Ok(found) => {
             let mut found = found;
             number_all(&mut found);
-            Some(found)
+            Ok(found)
         }
-        Err(_) => None,
+        Err(_) => Err(AllocError),
     }
 }
 
@@ -37,7 +37,7 @@ fn numbered_tokens(alloc: Global, text: &[u8]) -> Option<Vec<Token>> {
 fn ends_early(alloc: Global, tokens: &mut Vec<Token>) -> Result<bool, AllocError> {
     let count = tokens.len();
     tokens.push(numbered(Kind::Newline, count.saturating_add(1)))?;
-    let refused = refused_at(alloc, tokens.as_slice());
+    let refused = refused_at(alloc, tokens.as_slice())?;
     let _ = tokens.pop();
     Ok(refused != Some(count))
 }
@@ -76,12 +76,15 @@ fn early_end(alloc: Global, found: &mut Vec<Token>) -> Result<Finding, AllocErro
     )
 }
 
+/// Whether a token ends a statement.
+fn is_end(kind: &Kind) -> bool {
+    matches!(kind, Kind::CloseBrace | Kind::Newline | Kind::Semicolon)
+}
+
 /// What is told of a text that is tokens and no program.
 fn refused_syntax(alloc: Global, text: &[u8]) -> Result<Finding, AllocError> {
-    let Some(mut found) = numbered_tokens(alloc, text) else {
-        return plain_finding(alloc, RefusalCode::NotAProgram);
-    };
-    let number = refused_at(alloc, found.as_slice()).unwrap_or(0);
+    let mut found = numbered_tokens(alloc, text)?;
+    let number = refused_at(alloc, found.as_slice())?.unwrap_or(0);
     if number == found.len() && ends_early(alloc, &mut found)? {
         return early_end(alloc, &mut found);
     }
@@ -94,20 +97,27 @@ fn refused_syntax(alloc: Global, text: &[u8]) -> Result<Finding, AllocError> {
     let place = place_of(token);
     let word = shown(text, token);
     let advice = syntax_advice(found.as_slice(), at);
+    let ends_list = matches!(found.get(at), Some(token) if is_end(&token.kind));
     found.truncate(at);
+    let other = if ends_list {
+        open_list(alloc, found.as_slice())?
+    } else {
+        None
+    };
     let expected = expected_behind(alloc, &mut found)?;
     let message = [b": ".as_slice(), word, b" can't stand here"];
-    syntax_finding(alloc, Some(place), &message, None, expected, advice)
+    syntax_finding(alloc, Some(place), &message, other, expected, advice)
 }
 
 /// What is told of a program with an ERE that is refused.
 fn refused_pattern(alloc: Global, text: &[u8], code: RefusalCode) -> Result<Finding, AllocError> {
-    let Some(found) = numbered_tokens(alloc, text) else {
-        return plain_finding(alloc, code);
-    };
+    let found = numbered_tokens(alloc, text)?;
     let Err(refusal) = parse(alloc, found.as_slice()) else {
         return plain_finding(alloc, code);
     };
+    if refusal.code == RefusalCode::OutOfMemory {
+        return Err(AllocError);
+    }
     let number = usize::try_from(refusal.line).unwrap_or(0);
     match number.checked_sub(1).and_then(|at| found.get(at)) {
         Some(token) => pattern_finding(alloc, text, token, code),
@@ -117,12 +127,10 @@ fn refused_pattern(alloc: Global, text: &[u8], code: RefusalCode) -> Result<Find
 
 /// What is told of a program that is refused for its names, or for where its statements stand.
 fn refused_name(alloc: Global, text: &[u8], code: RefusalCode) -> Result<Finding, AllocError> {
-    let Ok(found) = tokens(alloc, text) else {
-        return plain_finding(alloc, code);
-    };
+    let found = numbered_tokens(alloc, text)?;
     match parse(alloc, &found) {
         Ok(tree) => name_finding(alloc, text, &found, &tree.items, code),
-        Err(_) => plain_finding(alloc, code),
+        Err(_) => Err(AllocError),
     }
 }
 
@@ -134,6 +142,7 @@ pub(crate) fn refused_finding(
 ) -> Result<Finding, AllocError> {
     let code = refusal.code;
     match code {
+        RefusalCode::OutOfMemory => Err(AllocError),
         RefusalCode::UnexpectedByte
         | RefusalCode::OpenString
         | RefusalCode::EscapeRefused
@@ -144,7 +153,7 @@ pub(crate) fn refused_finding(
         RefusalCode::PatternIllFormed
         | RefusalCode::PatternCountRefused
         | RefusalCode::PatternTooLarge => refused_pattern(alloc, text, code),
-        RefusalCode::NestedTooDeep | RefusalCode::OutOfMemory => plain_finding(alloc, code),
+        RefusalCode::NestedTooDeep => plain_finding(alloc, code),
         _ => refused_name(alloc, text, code),
     }
 }

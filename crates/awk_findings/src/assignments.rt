@@ -20,6 +20,26 @@ fn told_of(
     Ok(Some(finding))
 }
 
+/// What to write instead of a separator that is no pattern.
+fn separator_advice(alloc: Global, separator: &[u8]) -> Result<Vec<u8>, AllocError> {
+    let first = separator.first().copied().unwrap_or(b' ');
+    if separator.iter().all(|byte| *byte == first) {
+        let mut advice = joined(alloc, &[b"for these bytes themselves write "])?;
+        for byte in separator {
+            if is_ere_byte(*byte) {
+                advice.extend_from_slice(b"\\\\")?;
+            }
+            advice.push(*byte)?;
+        }
+        return Ok(advice);
+    }
+    let advice = match ere_fault(separator) {
+        Some(fault) => fault.advice,
+        None => b"",
+    };
+    joined(alloc, &[advice, b"; here each backslash stands twice"])
+}
+
 /// What is told of a separator of fields.
 fn separator_fault(
     alloc: Global,
@@ -34,11 +54,7 @@ fn separator_fault(
         Ok(_) => Ok(None),
         Err(PatternFault::Memory) => Err(AllocError),
         Err(_) => {
-            let advice = match ere_fault(separator) {
-                Some(fault) => fault.advice,
-                None => b"",
-            };
-            let advice = joined(alloc, &[advice, b"; here each backslash stands twice"])?;
+            let advice = separator_advice(alloc, separator)?;
             told_of(
                 alloc,
                 b"no pattern, fault 6 before the run: ",

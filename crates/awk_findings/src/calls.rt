@@ -2,7 +2,7 @@
 
 use crate::finding::{Finding, Place};
 use crate::text::bytes_of;
-use awk_lex::token::{Kind, Operator, Token};
+use awk_lex::token::{Keyword, Kind, Operator, Token};
 use std::alloc::{AllocError, Global};
 
 /// A stretch of tokens, from one up to another.
@@ -71,7 +71,8 @@ pub(crate) fn arguments(
     let open = at.saturating_add(1);
     let mut from = open.saturating_add(1);
     let mut depth = 0usize;
-    for (to, token) in tokens.iter().enumerate().skip(open) {
+    for (count, token) in tokens.get(open..).unwrap_or(&[]).iter().enumerate() {
+        let to = open.saturating_add(count);
         match bracket_of(&token.kind) {
             Bracket::Open => depth = depth.saturating_add(1),
             Bracket::Close => depth = depth.saturating_sub(1),
@@ -140,4 +141,64 @@ pub(crate) fn finding_at(
     advice: &[u8],
 ) -> Result<Finding, AllocError> {
     Finding::new(alloc, Some(place_of(token)), message, advice)
+}
+
+/// Whether the operand that ends with a token is joined to nothing behind it.
+pub(crate) fn stands_alone(tokens: &[Token], at: usize) -> bool {
+    match kind_behind(tokens, at, 1) {
+        None => true,
+        Some(kind) => matches!(
+            kind,
+            Kind::Comma
+                | Kind::Semicolon
+                | Kind::Newline
+                | Kind::CloseParenthesis
+                | Kind::CloseBracket
+                | Kind::CloseBrace
+                | Kind::OpenBrace
+                | Kind::Question
+                | Kind::Colon
+                | Kind::Bar
+                | Kind::Append
+                | Kind::Operator(Operator::And | Operator::Or | Operator::Greater)
+                | Kind::Keyword(Keyword::In)
+        ),
+    }
+}
+
+/// The place of bytes of a string in the text, by where they stand in what it stands for.
+pub(crate) fn place_in_string(text: &[u8], token: &Token, from: usize, to: usize) -> Place {
+    let source = text_of(text, token);
+    let mut place = Place {
+        start: token.end,
+        end: token.end,
+    };
+    let mut count = 0usize;
+    let mut left = 1usize;
+    for at in 0..source.len() {
+        if left > 0 {
+            left -= 1;
+            continue;
+        }
+        if count == from {
+            place.start = token.start.saturating_add(at);
+        }
+        if count == to {
+            place.end = token.start.saturating_add(at);
+            return place;
+        }
+        count = count.saturating_add(1);
+        left = spelled_length(source.get(at..).unwrap_or(b"")).saturating_sub(1);
+    }
+    place
+}
+
+/// How many bytes of a string's text spell the first that it stands for.
+fn spelled_length(source: &[u8]) -> usize {
+    match source {
+        [b'\\', b'0'..=b'7', b'0'..=b'7', b'0'..=b'7', ..] => 4,
+        [b'\\', b'0'..=b'7', b'0'..=b'7', ..] => 3,
+        [b'\\', ..] => 2,
+        _ => 1,
+    }
 }

@@ -2,7 +2,7 @@
 
 use crate::calls::name_of;
 use awk_lex::token::{Keyword, Kind, Token};
-use indexmap::IndexSet;
+use indexmap::{IndexMap, IndexSet};
 use std::alloc::{AllocError, Global};
 
 /// A function, by its tokens.
@@ -12,6 +12,8 @@ pub(crate) struct Definition {
     pub(crate) name: usize,
     /// Those of its parameters.
     pub(crate) parameters: Vec<usize>,
+    /// What its parameters are called.
+    pub(crate) names: IndexSet<Vec<u8>>,
     /// The last of its body, or of the text.
     pub(crate) end: usize,
 }
@@ -38,9 +40,10 @@ impl DefinitionScan {
     /// A token in the list of parameters.
     fn add_parameter(&mut self, at: usize, kind: &Kind) -> Result<(), AllocError> {
         match kind {
-            Kind::Name(_) => {
+            Kind::Name(name) => {
                 if let Some(last) = self.found.last_mut() {
                     last.parameters.push(at)?;
+                    last.names.insert(name.as_slice().to_vec(self.alloc)?)?;
                 }
             }
             Kind::OpenBrace => self.part = Part::Body(1),
@@ -73,6 +76,7 @@ impl DefinitionScan {
                 self.found.push(Definition {
                     name: at,
                     parameters: Vec::new(self.alloc),
+                    names: IndexSet::new(self.alloc),
                     end: at,
                 })?;
                 self.part = Part::Parameters;
@@ -106,51 +110,31 @@ pub(crate) fn name_at(tokens: &[Token], at: usize) -> &[u8] {
     }
 }
 
-/// The names of functions.
-pub(crate) fn function_names(
+/// The names of functions, each with its first definition among them all.
+pub(crate) fn first_definitions(
     alloc: Global,
     tokens: &[Token],
     all: &[Definition],
-) -> Result<IndexSet<Vec<u8>>, AllocError> {
-    let mut names = IndexSet::new(alloc);
-    for definition in all {
-        names.insert(name_at(tokens, definition.name).to_vec(alloc)?)?;
+) -> Result<IndexMap<Vec<u8>, usize>, AllocError> {
+    let mut names = IndexMap::new(alloc);
+    for (number, definition) in all.iter().enumerate() {
+        let name = name_at(tokens, definition.name);
+        if !names.contains_key(name) {
+            names.insert(name.to_vec(alloc)?, number)?;
+        }
     }
     Ok(names)
 }
 
-/// The function with a name.
-pub(crate) fn definition_of<'a>(
-    tokens: &[Token],
-    all: &'a [Definition],
-    name: &[u8],
-) -> Option<&'a Definition> {
-    for definition in all {
-        if name_at(tokens, definition.name) == name {
-            return Some(definition);
-        }
-    }
-    None
-}
-
 /// The function in which a token stands.
 pub(crate) fn definition_at(all: &[Definition], at: usize) -> Option<&Definition> {
-    for definition in all {
-        if definition.name <= at && at <= definition.end {
-            return Some(definition);
-        }
+    let count = all.partition_point(|definition| definition.name <= at);
+    let definition = all.get(count.checked_sub(1)?)?;
+    if at <= definition.end {
+        Some(definition)
+    } else {
+        None
     }
-    None
-}
-
-/// Whether a name is a parameter of a function.
-pub(crate) fn has_parameter(tokens: &[Token], definition: &Definition, name: &[u8]) -> bool {
-    for parameter in definition.parameters.as_slice() {
-        if name_at(tokens, *parameter) == name {
-            return true;
-        }
-    }
-    false
 }
 
 /// Whether a token is the name in a definition.

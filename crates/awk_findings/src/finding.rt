@@ -12,15 +12,34 @@ pub struct Place {
     pub end: usize,
 }
 
+/// How bad a finding is.
+#[derive(Clone, Copy, PartialEq, Eq)]
+pub enum Severity {
+    /// The program is refused.
+    Error,
+    /// It may not mean what it says.
+    Warning,
+    /// An answer.
+    Note,
+}
+
+/// Another stretch of the text that a finding has to do with, and what stands there.
+#[derive(Clone, Copy)]
+pub struct Note {
+    pub place: Place,
+    pub message: &'static [u8],
+}
+
 /// What is told of a program.
 #[derive(Drop)]
 pub struct Finding {
+    pub severity: Severity,
     /// The stretch of the text that it is told of, where one is known.
     pub place: Option<Place>,
     /// What it is, in one line.
     pub message: Vec<u8>,
-    /// Another stretch of the text that it has to do with, where there is one.
-    pub other: Option<Place>,
+    /// Another stretch that it has to do with, where there is one.
+    pub other: Option<Note>,
     /// What could stand there, in one line, or empty.
     pub expected: Vec<u8>,
     /// What to write instead, in one line, or empty.
@@ -44,7 +63,7 @@ pub(crate) fn shown(text: &[u8]) -> &[u8] {
 }
 
 impl Finding {
-    /// A finding whose message is these parts.
+    /// A warning whose message is these parts.
     pub(crate) fn new(
         alloc: Global,
         place: Option<Place>,
@@ -52,6 +71,7 @@ impl Finding {
         advice: &[u8],
     ) -> Result<Finding, AllocError> {
         Ok(Finding {
+            severity: Severity::Warning,
             place,
             message: joined(alloc, message)?,
             other: None,

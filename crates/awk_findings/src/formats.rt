@@ -20,26 +20,32 @@ enum Part {
     Precision(usize),
 }
 
-/// What to write instead of a directive that ends with this byte.
-fn directive_advice(byte: u8) -> &'static [u8] {
+const NO_FRACTIONS: &[u8] = b"no fractions here: scale, as printf \"%d.%02d\", c / 100, c % 100";
+
+/// What to write instead of a directive whose fault is this byte, by the byte behind it.
+fn directive_advice(byte: u8, next: u8) -> &'static [u8] {
     match byte {
-        b'e' | b'E' | b'f' | b'F' | b'g' | b'G' | b'a' | b'A' => {
-            b"no fractions here: scale, as printf \"%d.%02d\", c / 100, c % 100"
-        }
+        b'l' | b'h' | b'L' if matches!(next, b'e' | b'E' | b'f' | b'F' | b'g' | b'G') =>
+            NO_FRACTIONS,
+        b'e' | b'E' | b'f' | b'F' | b'g' | b'G' | b'a' | b'A' => { NO_FRACTIONS }
         b'*' => b"write the number in the format's text, or join it: \"%\" n \"d\"",
-        b'l' | b'h' | b'q' | b'L' | b'j' | b'z' | b't' =>
-            b"numbers have one size: leave the letter out",
+        b'l' | b'h' | b'L' | b'j' | b'z' | b't' => b"numbers have one size: leave the letter out",
         b'\'' => b"no thousands are set apart here: leave the flag out",
+        b'$' => b"the values are taken in their order: write %s and give them so",
+        b'b' | b'q' => b"it is the shell's own: write %s, and escapes in the string itself",
         b'%' => b"%% alone is a percent sign",
         _ => b"a percent sign is %%",
     }
 }
 
-fn fault(start: usize, at: usize, byte: u8) -> Option<FormatFault> {
+fn fault(format: &[u8], start: usize, at: usize) -> Option<FormatFault> {
+    let end = at.saturating_add(1);
+    let byte = format.get(at).copied().unwrap_or(b' ');
+    let next = format.get(end).copied().unwrap_or(b' ');
     Some(FormatFault {
         start,
-        end: at.saturating_add(1),
-        advice: directive_advice(byte),
+        end,
+        advice: directive_advice(byte, next),
     })
 }
 
@@ -70,9 +76,13 @@ pub(crate) fn format_fault(format: &[u8]) -> Option<FormatFault> {
     for (at, byte) in format.iter().enumerate() {
         match part_behind(part, at, *byte) {
             Some(behind) => part = behind,
-            None => return fault(start_of(part)?, at, *byte),
+            None => return fault(format, start_of(part)?, at),
         }
     }
     let start = start_of(part)?;
-    fault(start, format.len().saturating_sub(1), b' ')
+    Some(FormatFault {
+        start,
+        end: format.len(),
+        advice: directive_advice(b' ', b' '),
+    })
 }

@@ -2,10 +2,11 @@
 
 use crate::calls::{finding_at, text_of};
 use crate::conditions::add_conditions;
-use crate::finding::{Finding, Place, joined, shown};
+use crate::finding::{Finding, Note, Place, Severity, joined, shown};
 use crate::names::Names;
 use crate::patterns::ere_fault;
 use crate::statements::misplaced;
+use crate::syntax::{REMARKS, is_remark};
 use crate::unused::add_unused;
 use crate::variables::mixed;
 use crate::warnings::Warnings;
@@ -29,8 +30,10 @@ fn with_label(
                 other,
                 expected,
                 advice,
+                ..
             } = found;
             Ok(Finding {
+                severity: Severity::Error,
                 place,
                 message: joined(alloc, &[label.as_bytes(), &message])?,
                 other,
@@ -38,7 +41,11 @@ fn with_label(
                 advice,
             })
         }
-        None => Finding::new(alloc, None, &[label.as_bytes()], b""),
+        None => {
+            let mut finding = Finding::new(alloc, None, &[label.as_bytes()], b"")?;
+            finding.severity = Severity::Error;
+            Ok(finding)
+        }
     }
 }
 
@@ -95,7 +102,12 @@ pub fn pattern_finding(
                 start: body.saturating_add(found.place.start),
                 end: body.saturating_add(found.place.end),
             };
-            Finding::new(alloc, Some(place), &[b": ", shown], found.advice)?
+            let advice = if is_remark(ere.as_slice()) {
+                REMARKS
+            } else {
+                found.advice
+            };
+            Finding::new(alloc, Some(place), &[b": ", shown], advice)?
         }
         None => finding_at(alloc, token, &[b": ", shown], pattern_advice(code))?,
     };
@@ -108,7 +120,7 @@ pub fn syntax_finding(
     alloc: Global,
     place: Option<Place>,
     message: &[&[u8]],
-    other: Option<Place>,
+    other: Option<Note>,
     expected: Vec<u8>,
     advice: &[u8],
 ) -> Result<Finding, AllocError> {

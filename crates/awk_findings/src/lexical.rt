@@ -1,6 +1,6 @@
 // Where a text breaks that is no list of tokens, and what to write instead.
 
-use crate::finding::{Finding, Place, joined, shown};
+use crate::finding::{Finding, Place, Severity, joined, shown};
 use crate::scan::{LineScan, Within, divides_at_end};
 use crate::text::{bytes_of, numbered_line};
 use awk_lex::refusal::{Refusal, RefusalCode};
@@ -112,27 +112,35 @@ fn fault_at(code: RefusalCode, before: Within, line: &[u8], at: usize, byte: u8)
 }
 
 /// Where the fault stands on its line.
-fn fault_on(alloc: Global, code: RefusalCode, line: &[u8], divides: bool) -> Option<Place> {
+fn fault_on(
+    alloc: Global,
+    code: RefusalCode,
+    line: &[u8],
+    divides: bool,
+) -> Result<Option<Place>, AllocError> {
     let mut scan = LineScan::new(divides);
     for (at, byte) in line.iter().enumerate() {
         let before = scan.within;
-        scan.step(alloc, line, at, *byte);
+        scan.step(alloc, line, at, *byte)?;
         if let Some(place) = fault_at(code, before, line, at, *byte) {
-            return Some(place);
+            return Ok(Some(place));
         }
     }
     let end = line.len();
-    match (code, scan.within) {
+    Ok(match (code, scan.within) {
         (RefusalCode::OpenString, Within::Text(start, _)) => Some(Place { start, end }),
         (RefusalCode::OpenPattern, Within::Pattern(start, _)) => Some(Place { start, end }),
         (RefusalCode::NumberRefused, Within::Number(start)) => Some(Place { start, end }),
         _ => None,
-    }
+    })
 }
 
-/// What to write instead of a byte that begins no token.
-fn byte_advice(byte: u8) -> &'static [u8] {
+/// What to write instead of a byte that begins no token, by the byte before it.
+fn byte_advice(byte: u8, before: u8) -> &'static [u8] {
     match byte {
+        b'&' if before == b'|' => {
+            b"there is no command that is both written to and read: print to \"cmd >file\", close it, and read the file"
+        }
         b'\'' =>
             b"strings stand between double quotes; in a shell's single quotes write '\\'' or \\047",
         b'.' => b"numbers are whole and have no point; texts are joined by standing side by side",
@@ -182,9 +190,12 @@ fn number_advice(number: &[u8]) -> &'static [u8] {
     }
 }
 
-fn advice_on(code: RefusalCode, found: &[u8], line: &[u8]) -> &'static [u8] {
+/// What to write instead of what was found on a line, behind such a byte.
+fn advice_on(code: RefusalCode, found: &[u8], before: u8, line: &[u8]) -> &'static [u8] {
     match code {
-        RefusalCode::UnexpectedByte => byte_advice(found.first().copied().unwrap_or(b' ')),
+        RefusalCode::UnexpectedByte => {
+            byte_advice(found.first().copied().unwrap_or(b' '), before)
+        }
         RefusalCode::OpenString if line.ends_with(b"\\") => {
             b"a string ends on its line: join two, as \"a\" \"b\", with the backslash between them"
         }
@@ -229,7 +240,7 @@ pub fn lexical_finding(
     let before = text.get(..stretch.start).unwrap_or(b"");
     let fault = match code {
         RefusalCode::ProgramTooLong => None,
-        _ => fault_on(alloc, code, line, divides_at_end(alloc, before)),
+        _ => fault_on(alloc, code, line, divides_at_end(alloc, before)?)?,
     };
     let (found, place) = match fault {
         Some(fault) => {
@@ -241,7 +252,16 @@ pub fn lexical_finding(
         }
         None => (b"".as_slice(), None),
     };
-    let advice = advice_on(code, found, line);
+    let before = match place {
+        Some(place) => text
+            .get(place.start.saturating_sub(1))
+            .copied()
+            .unwrap_or(b' '),
+        None => b' ',
+    };
+    let advice = advice_on(code, found, before, line);
     let shown = found_text(alloc, found)?;
-    Finding::new(alloc, place, &[label.as_bytes(), &shown], advice)
+    let mut finding = Finding::new(alloc, place, &[label.as_bytes(), &shown], advice)?;
+    finding.severity = Severity::Error;
+    Ok(finding)
 }

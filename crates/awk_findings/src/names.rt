@@ -1,15 +1,14 @@
 // Which name a program is refused for.
 
 use crate::calls::{arguments, finding_at, kind_before, kind_behind, name_of, place_of};
-use crate::definitions::{
-    Definition, definition_of, definitions, function_names, is_defining, name_at,
-};
-use crate::finding::Finding;
+use crate::definitions::{Definition, definitions, first_definitions, is_defining, name_at};
+use crate::finding::{Finding, Note, joined};
+use crate::near::NearNames;
 use crate::special::{foreign_advice, is_special, left_out_advice};
 use awk_lex::refusal::RefusalCode;
 use awk_lex::token::{Kind, Token};
 use awk_lex::words::is_left_out;
-use indexmap::IndexSet;
+use indexmap::{IndexMap, IndexSet};
 use std::alloc::{AllocError, Global};
 
 /// What is told of a name at its token.
@@ -28,18 +27,24 @@ fn named_finding(
 pub(crate) struct Names<'a> {
     pub(crate) tokens: &'a [Token],
     pub(crate) all: Vec<Definition>,
-    pub(crate) functions: IndexSet<Vec<u8>>,
+    /// The first definition of each name.
+    pub(crate) functions: IndexMap<Vec<u8>, usize>,
 }
 
 impl<'a> Names<'a> {
     pub(crate) fn of(alloc: Global, tokens: &'a [Token]) -> Result<Names<'a>, AllocError> {
         let all = definitions(alloc, tokens)?;
-        let functions = function_names(alloc, tokens, &all)?;
+        let functions = first_definitions(alloc, tokens, &all)?;
         Ok(Names {
             tokens,
             all,
             functions,
         })
+    }
+
+    /// The function with a name.
+    pub(crate) fn definition_of(&self, name: &[u8]) -> Option<&Definition> {
+        self.all.get(*self.functions.get(name)?)
     }
 
     /// K2: a call of a name that is no function.
@@ -53,7 +58,7 @@ impl<'a> Names<'a> {
             return Ok(None);
         };
         let name = name.as_slice();
-        if self.functions.contains(name) || is_left_out(name) {
+        if self.functions.contains_key(name) || is_left_out(name) {
             return Ok(None);
         }
         let advice = match kind_before(self.tokens, at, 1) {
@@ -62,7 +67,28 @@ impl<'a> Names<'a> {
             }
             _ => foreign_advice(name),
         };
-        Ok(Some(finding_at(alloc, token, &[b": ", name], advice)?))
+        let mut finding = finding_at(alloc, token, &[b": ", name], advice)?;
+        if advice.is_empty() {
+            finding.advice = self.meant_function(alloc, name)?;
+        }
+        Ok(Some(finding))
+    }
+
+    /// What to write instead of a call of a name that nothing is known of.
+    fn meant_function(&self, alloc: Global, name: &[u8]) -> Result<Vec<u8>, AllocError> {
+        let mut near = NearNames::new(alloc);
+        near.add_reserved()?;
+        for (function, _) in &self.functions {
+            near.add(function.as_slice())?;
+        }
+        match near.find(name)? {
+            Some(meant) => joined(alloc, &[b"did you mean ", meant, b"?"]),
+            None => {
+                let advice =
+                    b"define it, or mend the name; two values that are joined need a blank between them";
+                advice.to_vec(alloc)
+            }
+        }
     }
 
     /// K3: the second definition of a function.
@@ -78,10 +104,13 @@ impl<'a> Names<'a> {
         let Some(name) = name_of(token) else {
             return Ok(None);
         };
-        match definition_of(self.tokens, &self.all, name) {
+        match self.definition_of(name) {
             Some(first) if first.name < at => {
                 let mut finding = finding_at(alloc, token, &[b": ", name], b"rename one of them")?;
-                finding.other = self.tokens.get(first.name).map(|first| place_of(first));
+                finding.other = self.tokens.get(first.name).map(|first| Note {
+                    place: place_of(first),
+                    message: b"it is defined here first",
+                });
                 Ok(Some(finding))
             }
             _ => Ok(None),
@@ -99,7 +128,7 @@ impl<'a> Names<'a> {
             return Ok(None);
         };
         let name = name.as_slice();
-        let Some(definition) = definition_of(self.tokens, &self.all, name) else {
+        let Some(definition) = self.definition_of(name) else {
             return Ok(None);
         };
         let most = definition.parameters.len();
@@ -112,18 +141,13 @@ impl<'a> Names<'a> {
         Ok(Some(finding_at(alloc, token, &message, b"")?))
     }
 
-    /// Why a parameter, with those before it, is refused.
-    fn parameter_fault(&self, name: &[u8], before: &[usize]) -> Option<&'static [u8]> {
-        if self.functions.contains(name) {
+    /// Why a parameter is refused, whatever the others are.
+    fn parameter_fault(&self, name: &[u8]) -> Option<&'static [u8]> {
+        if self.functions.contains_key(name) {
             return Some(b" is a function's name too");
         }
         if is_special(name) {
             return Some(b" is a variable of awk's own");
-        }
-        for parameter in before {
-            if name_at(self.tokens, *parameter) == name {
-                return Some(b" is a parameter twice");
-            }
         }
         None
     }
@@ -134,15 +158,19 @@ impl<'a> Names<'a> {
         alloc: Global,
         definition: &Definition,
     ) -> Result<Option<Finding>, AllocError> {
-        for (count, parameter) in definition.parameters.iter().enumerate() {
+        let mut before = IndexSet::new(alloc);
+        for parameter in definition.parameters.as_slice() {
             let name = name_at(self.tokens, *parameter);
-            let before = definition.parameters.get(..count).unwrap_or(&[]);
             let Some(token) = self.tokens.get(*parameter) else {
                 continue;
             };
-            if let Some(fault) = self.parameter_fault(name, before) {
+            if let Some(fault) = self.parameter_fault(name) {
                 return named_finding(alloc, token, name, fault);
             }
+            if before.contains(name) {
+                return named_finding(alloc, token, name, b" is a parameter twice");
+            }
+            before.insert(name.to_vec(alloc)?)?;
         }
         Ok(None)
     }
@@ -183,7 +211,7 @@ impl<'a> Names<'a> {
             return named_finding(alloc, token, name, b" is a variable of awk's own");
         }
         let is_name = matches!(token.kind, Kind::Name(_));
-        if is_defining || !is_name || !self.functions.contains(name) {
+        if is_defining || !is_name || !self.functions.contains_key(name) {
             return Ok(None);
         }
         let advice = match kind_behind(self.tokens, at, 1) {

@@ -20,14 +20,34 @@ enum Before {
     Atom,
 }
 
+/// What a byte in a bracket stands behind.
+#[derive(Clone, Copy)]
+enum Inside {
+    /// Nothing that begins a range.
+    Nothing,
+    /// A byte, which may begin one.
+    Mark,
+    /// A byte and the minus of a range.
+    Range,
+    /// The start of a class, at this byte.
+    Class(usize),
+}
+
+/// A bracket that is open.
+#[derive(Clone, Copy)]
+struct Bracket {
+    start: usize,
+    inside: Inside,
+}
+
 /// A scan of an ERE.
 #[derive(Drop)]
 struct EreScan {
     before: Before,
     open: usize,
     is_escaped: bool,
-    /// Where the bracket begins that the byte is in.
-    bracket: Option<usize>,
+    /// The bracket that the byte is in.
+    bracket: Option<Bracket>,
     /// Where the last open parenthesis stands.
     last_open: usize,
 }
@@ -39,10 +59,19 @@ fn fault(start: usize, end: usize, advice: &'static [u8]) -> Option<EreFault> {
     })
 }
 
+/// Whether an octal escape whose first digit stands at a place is above 255.
+fn is_high_octal(text: &[u8], at: usize) -> bool {
+    matches!(
+        text.get(at..),
+        Some([b'4'..=b'7', b'0'..=b'7', b'0'..=b'7', ..])
+    )
+}
+
 /// What to write instead of an escape that EREs don't have.
-fn escape_fault(at: usize, byte: u8) -> Option<EreFault> {
+fn escape_fault(text: &[u8], at: usize, byte: u8) -> Option<EreFault> {
     let advice = match byte {
-        b's' => b"write [[:space:]]".as_slice(),
+        _ if is_high_octal(text, at) => b"an octal escape is at most \\377".as_slice(),
+        b's' => b"write [[:space:]]",
         b'S' => b"write [^[:space:]]",
         b'w' => b"write [[:alnum:]_]",
         b'W' => b"write [^[:alnum:]_]",
@@ -59,6 +88,19 @@ fn escape_fault(at: usize, byte: u8) -> Option<EreFault> {
     fault(at.saturating_sub(1), at.saturating_add(1), advice)
 }
 
+/// What to write instead of an escape in a bracket.
+fn bracket_escape_fault(text: &[u8], at: usize, byte: u8) -> Option<EreFault> {
+    let advice = match byte {
+        b's' => b"in a bracket write [:space:] for \\s".as_slice(),
+        b'w' => b"in a bracket write [:alnum:]_ for \\w",
+        b'd' => b"in a bracket write 0-9 for \\d",
+        b'S' | b'W' | b'D' =>
+            b"a bracket takes classes in, none out: write ([^[:space:]]|[x]) for [\\Sx]",
+        _ => return escape_fault(text, at, byte),
+    };
+    fault(at.saturating_sub(1), at.saturating_add(1), advice)
+}
+
 const LONE_BRACE: &[u8] = b"a brace that is itself is \\{";
 
 const LONE_PARENTHESIS: &[u8] = b"a parenthesis that is itself is \\) or [)]";
@@ -67,21 +109,124 @@ const EMPTY_BRANCH: &[u8] = b"no branch and no group is empty: write (x)? for (x
 
 const NOTHING_TO_REPEAT: &[u8] = b"there is nothing to repeat: a byte that is itself is \\* or [*]";
 
-impl EreScan {
-    /// Goes over a byte in a bracket.
-    fn bracket_step(&mut self, text: &[u8], at: usize, byte: u8, start: usize) -> Option<EreFault> {
-        if byte == b'[' && matches!(text.get(at.saturating_add(1)), Some(b'.' | b'=')) {
-            let end = at.saturating_add(2);
-            return fault(at, end, b"no collating symbols and no classes [= =] here");
+const LONE_MINUS: &[u8] = b"a minus that is itself stands first or last in a bracket";
+
+const NO_COLLATION: &[u8] = b"no collating symbols and no classes [= =] here";
+
+const CLASS_NAMES: &[u8] =
+    b"the classes are alnum alpha blank cntrl digit graph lower print punct space upper xdigit";
+
+/// Whether a byte is the first in a bracket, perhaps behind a circumflex.
+fn is_first_in(text: &[u8], start: usize, at: usize) -> bool {
+    let inside = at.saturating_sub(start);
+    inside == 1 || (inside == 2 && text.get(at.saturating_sub(1)) == Some(&b'^'))
+}
+
+fn is_class(name: &[u8]) -> bool {
+    matches!(
+        name,
+        b"alnum"
+            | b"alpha"
+            | b"blank"
+            | b"cntrl"
+            | b"digit"
+            | b"graph"
+            | b"lower"
+            | b"print"
+            | b"punct"
+            | b"space"
+            | b"upper"
+            | b"xdigit"
+    )
+}
+
+/// What is wrong with a class that begins at one byte and ends with another.
+fn class_fault(text: &[u8], from: usize, at: usize) -> Option<EreFault> {
+    let name = text
+        .get(from.saturating_add(2)..at.saturating_sub(1))
+        .unwrap_or(b"");
+    if is_class(name) {
+        return None;
+    }
+    fault(from, at.saturating_add(1), CLASS_NAMES)
+}
+
+/// What stands behind a byte, or the escape of one, that is itself.
+fn behind_mark(inside: Inside) -> Inside {
+    match inside {
+        Inside::Range => Inside::Nothing,
+        _ => Inside::Mark,
+    }
+}
+
+/// Whether what stands behind an open brace makes an interval of it.
+fn is_interval(behind: &[u8]) -> bool {
+    let mut has_comma = false;
+    for (at, byte) in behind.iter().enumerate() {
+        match byte {
+            b'0'..=b'9' => {}
+            b',' if !has_comma && at > 0 => has_comma = true,
+            b'}' => return at > 0,
+            _ => return false,
         }
-        let inside = at.saturating_sub(start);
-        let is_first = inside == 1
-            || (inside == 2 && text.get(at.saturating_sub(1)) == Some(&b'^'));
-        let closes_class = text.get(at.saturating_sub(1)) == Some(&b':');
-        if byte == b']' && !is_first && !closes_class {
+    }
+    false
+}
+
+impl EreScan {
+    /// Goes over a byte in the name of a class.
+    fn class_step(
+        &mut self,
+        text: &[u8],
+        at: usize,
+        bracket: Bracket,
+        from: usize,
+    ) -> Option<EreFault> {
+        let ends = at > from.saturating_add(2)
+            && text.get(at) == Some(&b']')
+            && text.get(at.saturating_sub(1)) == Some(&b':');
+        if !ends {
+            return None;
+        }
+        self.bracket = Some(Bracket {
+            inside: Inside::Nothing,
+            ..bracket
+        });
+        class_fault(text, from, at)
+    }
+
+    /// Goes over a byte in a bracket.
+    fn bracket_step(
+        &mut self,
+        text: &[u8],
+        at: usize,
+        byte: u8,
+        bracket: Bracket,
+    ) -> Option<EreFault> {
+        let next = text.get(at.saturating_add(1)).copied().unwrap_or(b' ');
+        let is_first = is_first_in(text, bracket.start, at);
+        if byte == b']' && !is_first {
             self.bracket = None;
             self.before = Before::Atom;
+            return None;
         }
+        let inside = match (bracket.inside, byte) {
+            (inside, b'\\') => {
+                self.is_escaped = true;
+                inside
+            }
+            (_, b'[') if matches!(next, b'.' | b'=') => {
+                return fault(at, at.saturating_add(2), NO_COLLATION);
+            }
+            (_, b'[') if next == b':' => Inside::Class(at),
+            (inside, b'^') if at.saturating_sub(bracket.start) == 1 => inside,
+            (Inside::Mark, b'-') if next != b']' => Inside::Range,
+            (Inside::Nothing, b'-') if !is_first && next != b']' => {
+                return fault(at, at.saturating_add(1), LONE_MINUS);
+            }
+            (inside, _) => behind_mark(inside),
+        };
+        self.bracket = Some(Bracket { inside, ..bracket });
         None
     }
 
@@ -103,10 +248,15 @@ impl EreScan {
 
     /// Goes over a byte that stands by itself.
     fn plain_step(&mut self, text: &[u8], at: usize, byte: u8) -> Option<EreFault> {
-        let next = text.get(at.saturating_add(1)).copied().unwrap_or(b' ');
+        let behind = text.get(at.saturating_add(1)..).unwrap_or(b"");
         match byte {
             b'\\' => self.is_escaped = true,
-            b'[' => self.bracket = Some(at),
+            b'[' => {
+                self.bracket = Some(Bracket {
+                    start: at,
+                    inside: Inside::Nothing,
+                });
+            }
             b'(' => {
                 self.open = self.open.saturating_add(1);
                 self.last_open = at;
@@ -126,7 +276,7 @@ impl EreScan {
             }
             b'^' | b'$' => self.before = Before::Anchor,
             b'*' | b'+' | b'?' => return self.repeat(at, NOTHING_TO_REPEAT),
-            b'{' if !next.is_ascii_digit() => return fault(at, at.saturating_add(1), LONE_BRACE),
+            b'{' if !is_interval(behind) => return fault(at, at.saturating_add(1), LONE_BRACE),
             b'{' => return self.repeat(at, LONE_BRACE),
             _ => self.before = Before::Atom,
         }
@@ -136,20 +286,41 @@ impl EreScan {
     fn step(&mut self, text: &[u8], at: usize, byte: u8) -> Option<EreFault> {
         if self.is_escaped {
             self.is_escaped = false;
-            self.before = Before::Atom;
-            return escape_fault(at, byte);
+            return self.escaped_step(text, at, byte);
         }
         match self.bracket {
-            Some(start) => self.bracket_step(text, at, byte, start),
+            Some(bracket) => match bracket.inside {
+                Inside::Class(from) => self.class_step(text, at, bracket, from),
+                _ => self.bracket_step(text, at, byte, bracket),
+            },
             None => self.plain_step(text, at, byte),
+        }
+    }
+
+    /// Goes over a byte behind a backslash.
+    fn escaped_step(&mut self, text: &[u8], at: usize, byte: u8) -> Option<EreFault> {
+        match self.bracket {
+            Some(bracket) => {
+                let inside = behind_mark(bracket.inside);
+                self.bracket = Some(Bracket { inside, ..bracket });
+                bracket_escape_fault(text, at, byte)
+            }
+            None => {
+                self.before = Before::Atom;
+                escape_fault(text, at, byte)
+            }
         }
     }
 
     /// What is wrong at the end of the text.
     fn end(&self, text: &[u8]) -> Option<EreFault> {
         let end = text.len();
-        if let Some(start) = self.bracket {
-            return fault(start, end, b"close the bracket with ], or write \\[");
+        if let Some(bracket) = self.bracket {
+            return fault(
+                bracket.start,
+                end,
+                b"close the bracket with ], or write \\[",
+            );
         }
         if self.is_escaped {
             return fault(

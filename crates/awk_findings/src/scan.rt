@@ -1,9 +1,10 @@
 // The bytes of one line, token by token.
 
 use awk_lex::lexer::tokens;
+use awk_lex::refusal::RefusalCode;
 use awk_lex::token::Kind;
 use awk_lex::words::is_word_byte;
-use std::alloc::Global;
+use std::alloc::{AllocError, Global};
 
 /// What a place of a line is in.
 #[derive(Clone, Copy)]
@@ -46,13 +47,14 @@ pub(crate) fn divides_behind(kind: &Kind) -> bool {
 }
 
 /// Whether a slash behind this text, which is tokens, divides.
-pub(crate) fn divides_at_end(alloc: Global, text: &[u8]) -> bool {
+pub(crate) fn divides_at_end(alloc: Global, text: &[u8]) -> Result<bool, AllocError> {
     match tokens(alloc, text) {
-        Ok(tokens) => match tokens.last() {
+        Ok(tokens) => Ok(match tokens.last() {
             Some(token) => divides_behind(&token.kind),
             None => false,
-        },
-        Err(_) => false,
+        }),
+        Err(refusal) if refusal.code == RefusalCode::OutOfMemory => Err(AllocError),
+        Err(_) => Ok(false),
     }
 }
 
@@ -99,7 +101,13 @@ impl LineScan {
     }
 
     /// Goes over the byte at a place of the line.
-    pub(crate) fn step(&mut self, alloc: Global, line: &[u8], at: usize, byte: u8) {
+    pub(crate) fn step(
+        &mut self,
+        alloc: Global,
+        line: &[u8],
+        at: usize,
+        byte: u8,
+    ) -> Result<(), AllocError> {
         match self.within {
             Within::Nothing => self.begin(at, byte),
             Within::Remark => {}
@@ -107,7 +115,7 @@ impl LineScan {
             Within::Pattern(start, is_escaped) => self.go_on(byte, start, is_escaped, b'/'),
             Within::Word(start) => {
                 if !is_word_byte(byte) {
-                    self.divides = divides_at_end(alloc, line.get(start..at).unwrap_or(b""));
+                    self.divides = divides_at_end(alloc, line.get(start..at).unwrap_or(b""))?;
                     self.within = Within::Nothing;
                     self.begin(at, byte);
                 }
@@ -120,5 +128,6 @@ impl LineScan {
                 }
             }
         }
+        Ok(())
     }
 }

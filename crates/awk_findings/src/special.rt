@@ -50,6 +50,113 @@ pub(crate) fn foreign_advice(name: &[u8]) -> &'static [u8] {
         }
         b"patsplit" | b"isarray" | b"typeof" => b"it is gawk's own",
         b"printf" | b"print" => b"a blank belongs behind it",
-        _ => b"define it, or mend the name; two values that are joined need a blank between them",
+        b"strtod" | b"round" | b"abs" | b"ceil" | b"floor" => {
+            b"there is none: x < 0 ? -x : x is the absolute value, and numbers are whole"
+        }
+        _ => b"",
     }
 }
+
+/// Whether a name is one of gawk's own variables, or begins a rule there.
+pub(crate) fn is_foreign(name: &[u8]) -> bool {
+    matches!(
+        name,
+        b"ARGIND"
+            | b"BEGINFILE"
+            | b"BINMODE"
+            | b"ENDFILE"
+            | b"ERRNO"
+            | b"FIELDWIDTHS"
+            | b"FPAT"
+            | b"FUNCTAB"
+            | b"IGNORECASE"
+            | b"LINT"
+            | b"PROCINFO"
+            | b"ROUNDMODE"
+            | b"PREC"
+            | b"RT"
+            | b"SYMTAB"
+            | b"TEXTDOMAIN"
+    )
+}
+
+/// What to write instead of one of gawk's own variables.
+pub(crate) fn foreign_variable_advice(name: &[u8]) -> &'static [u8] {
+    match name {
+        b"IGNORECASE" => b"compare tolower($0) ~ /pattern/",
+        b"FPAT" | b"FIELDWIDTHS" => b"cut the record by match and substr",
+        b"BEGINFILE" => b"a rule FNR == 1 is tried at each file's first record",
+        b"ENDFILE" =>
+            b"a rule FNR == 1 && NR > 1 is tried behind each file but the last, and END behind all",
+        b"PROCINFO" =>
+            b"a walk goes in the order in which the keys came; for another print to sort",
+        b"ARGIND" => b"FILENAME is the file's name",
+        _ => b"",
+    }
+}
+
+/// What to write instead of a word that other languages have.
+pub(crate) fn word_advice(name: &[u8]) -> &'static [u8] {
+    match name {
+        b"true" | b"True" | b"TRUE" => b"truth is 1",
+        b"false" | b"False" | b"FALSE" => b"untruth is 0",
+        b"null" | b"NULL" | b"nil" | b"None" | b"undefined" => b"the empty text is \"\"",
+        b"not" => b"not is written !",
+        b"and" => b"and is written &&",
+        b"or" => b"or is written ||",
+        _ => b"",
+    }
+}
+
+/// The words that are reserved, and awk's own variables.
+pub(crate) const KNOWN_WORDS: [&[u8]; 49] = [
+    b"ARGC",
+    b"ARGV",
+    b"CONVFMT",
+    b"ENVIRON",
+    b"FILENAME",
+    b"FNR",
+    b"FS",
+    b"NF",
+    b"NR",
+    b"OFMT",
+    b"OFS",
+    b"ORS",
+    b"RLENGTH",
+    b"RS",
+    b"RSTART",
+    b"SUBSEP",
+    b"BEGIN",
+    b"END",
+    b"function",
+    b"if",
+    b"else",
+    b"while",
+    b"for",
+    b"do",
+    b"break",
+    b"continue",
+    b"next",
+    b"nextfile",
+    b"exit",
+    b"return",
+    b"delete",
+    b"in",
+    b"getline",
+    b"print",
+    b"printf",
+    b"length",
+    b"substr",
+    b"index",
+    b"split",
+    b"sub",
+    b"gsub",
+    b"match",
+    b"sprintf",
+    b"tolower",
+    b"toupper",
+    b"int",
+    b"system",
+    b"close",
+    b"fflush",
+];

@@ -1,7 +1,7 @@
 // What to write instead of a token that can't stand where it stands.
 
 use crate::calls::{kind_before, kind_behind, place_of};
-use crate::finding::Place;
+use crate::finding::Note;
 use awk_lex::token::{AssignmentOperator, BuiltIn, Keyword, Kind, Operator, Token};
 use std::alloc::{AllocError, Global};
 
@@ -102,12 +102,19 @@ fn list_advice(tokens: &[Token], opened: Opened) -> &'static [u8] {
     };
     match kind_before(tokens, open, 1) {
         Some(Kind::BuiltIn(function)) => argument_advice(*function),
+        Some(Kind::Keyword(Keyword::For)) => {
+            b"each part of a for is one expression: set the other variable before it"
+        }
         _ => b"",
     }
 }
 
+const NO_DECLARATIONS: &[u8] = b"variables aren't declared: leave the word before the name out";
+
+pub(crate) const REMARKS: &[u8] = b"a remark begins with # and goes to the end of the line";
+
 /// What to write instead of a token behind another one.
-fn pair_advice(before: &Kind, kind: &Kind) -> &'static [u8] {
+fn pair_advice(before: &Kind, kind: &Kind, opened: Opened) -> &'static [u8] {
     match (before, kind) {
         (Kind::Operator(Operator::Times), Kind::Operator(Operator::Times)) => {
             b"a power is x ^ y"
@@ -118,6 +125,29 @@ fn pair_advice(before: &Kind, kind: &Kind) -> &'static [u8] {
         (Kind::Keyword(Keyword::If | Keyword::While), _) => {
             b"the condition stands in parentheses"
         }
+        (Kind::Keyword(Keyword::For), _) => {
+            b"behind for stand parentheses: for (k in a), or for (i = 1; i <= n; i++)"
+        }
+        (Kind::Assign(AssignmentOperator::Plain), Kind::Operator(Operator::Matches)) => {
+            b"whether a text matches is x ~ /pattern/"
+        }
+        (Kind::Operator(Operator::Less), Kind::Operator(Operator::Greater)) => {
+            b"whether two values differ is x != y"
+        }
+        (
+            Kind::Operator(Operator::Equal | Operator::NotEqual),
+            Kind::Assign(AssignmentOperator::Plain),
+        ) => b"two values are compared by == and !=",
+        (Kind::Colon, Kind::Assign(AssignmentOperator::Plain)) => b"an assignment is x = 1",
+        (Kind::CloseBracket, Kind::OpenBracket) => {
+            b"an element is no array: write a[i, j], whose key joins both by SUBSEP"
+        }
+        (Kind::BuiltIn(BuiltIn::Int), Kind::Name(_)) => NO_DECLARATIONS,
+        (Kind::BuiltIn(BuiltIn::Length), _) => b"",
+        (
+            Kind::BuiltIn(_),
+            Kind::String(_) | Kind::Name(_) | Kind::Number(_) | Kind::Dollar | Kind::Ere(_),
+        ) => b"what a function takes stands in parentheses behind its name",
         (Kind::Dollar, _) => b"behind $ more than a name or a number stands in parentheses: $(-1)",
         (Kind::Keyword(Keyword::Begin | Keyword::End), Kind::Newline) => {
             b"the { stands on the line of BEGIN or END"
@@ -129,9 +159,8 @@ fn pair_advice(before: &Kind, kind: &Kind) -> &'static [u8] {
         (Kind::Newline, Kind::Operator(_) | Kind::Question | Kind::Colon) => {
             b"an operator stands at the end of the line before, behind && and || without a backslash"
         }
-        (Kind::CloseParenthesis | Kind::Keyword(Keyword::Else | Keyword::Do), Kind::CloseBrace) => {
-            b"a statement is missing before the }: write ; for none"
-        }
+        (Kind::CloseParenthesis | Kind::Keyword(Keyword::Else | Keyword::Do), Kind::CloseBrace)
+            if opened.lists == 0 => { b"a statement is missing before the }: write ; for none" }
         _ => b"",
     }
 }
@@ -140,6 +169,13 @@ fn pair_advice(before: &Kind, kind: &Kind) -> &'static [u8] {
 fn token_advice(tokens: &[Token], at: usize, kind: &Kind, opened: Opened) -> &'static [u8] {
     match kind {
         Kind::CloseBrace if opened.braces == 0 => b"no { is open here",
+        Kind::CloseBrace | Kind::Semicolon if opened.lists > 0 => {
+            b"a ) or ] is missing before it"
+        }
+        Kind::Colon if matches!(kind_behind(tokens, at, 1), Some(Kind::Assign(_))) => {
+            b"an assignment is x = 1"
+        }
+        Kind::OpenBracket => b"there are no lists: split(\"1 2 3\", a) makes an array of three",
         Kind::Keyword(Keyword::Function | Keyword::Begin | Keyword::End) if opened.braces > 0 => {
             b"a } is missing before it"
         }
@@ -160,6 +196,11 @@ fn token_advice(tokens: &[Token], at: usize, kind: &Kind, opened: Opened) -> &'s
     }
 }
 
+/// Whether a pattern is likely the front of another language's remark.
+pub(crate) fn is_remark(ere: &[u8]) -> bool {
+    ere.is_empty() || (ere.starts_with(b"*") && ere.ends_with(b"*"))
+}
+
 /// What to write instead of a word that is no keyword, or of a pattern, in a statement.
 fn word_advice(tokens: &[Token], from: usize, to: usize) -> &'static [u8] {
     for token in tokens.get(from..to).unwrap_or(&[]) {
@@ -170,8 +211,19 @@ fn word_advice(tokens: &[Token], from: usize, to: usize) -> &'static [u8] {
                     return b"there is no such statement: write if and else if, or for (k in a)";
                 }
                 b"func" | b"def" | b"sub" => return b"write function",
+                b"var"
+                | b"let"
+                | b"local"
+                | b"my"
+                | b"global"
+                | b"string"
+                | b"float"
+                | b"double"
+                | b"char"
+                | b"const" => return NO_DECLARATIONS,
                 _ => {}
             },
+            Kind::Ere(ere) if is_remark(ere.as_slice()) => return REMARKS,
             Kind::Ere(_) => return b"a slash in a pattern, also in brackets, is written \\/",
             _ => {}
         }
@@ -186,13 +238,25 @@ pub fn syntax_advice(tokens: &[Token], at: usize) -> &'static [u8] {
     };
     let opened = opened_before(tokens, at);
     if let Some(before) = kind_before(tokens, at, 1) {
-        let advice = pair_advice(before, kind);
+        let advice = pair_advice(before, kind, opened);
         if !advice.is_empty() {
             return advice;
         }
     }
     if opened.lists == 0 && has_target(tokens, opened.statement, at) {
-        return b"a target that is joined or computed stands in parentheses: print > (a \".out\")";
+        return match kind {
+            Kind::Operator(Operator::Greater) | Kind::Append | Kind::Bar => {
+                b"one print has one target: print | \"sort >out\""
+            }
+            _ => b"a target that is joined or computed stands in parentheses: print > (a \".out\")",
+        };
+    }
+    let word = match kind {
+        Kind::Assign(_) => word_advice(tokens, opened.statement, at),
+        _ => b"",
+    };
+    if !word.is_empty() {
+        return word;
     }
     match token_advice(tokens, at, kind, opened) {
         [] => word_advice(tokens, opened.statement, at),
@@ -201,7 +265,7 @@ pub fn syntax_advice(tokens: &[Token], at: usize) -> &'static [u8] {
 }
 
 /// The innermost brace, parenthesis or bracket that is open behind all tokens.
-pub fn last_open(alloc: Global, tokens: &[Token]) -> Result<Option<Place>, AllocError> {
+pub fn last_open(alloc: Global, tokens: &[Token]) -> Result<Option<Note>, AllocError> {
     let mut open = Vec::new(alloc);
     for token in tokens {
         match token.kind {
@@ -214,5 +278,18 @@ pub fn last_open(alloc: Global, tokens: &[Token]) -> Result<Option<Place>, Alloc
             _ => {}
         }
     }
-    Ok(open.pop())
+    Ok(
+        open.pop().map(|place| Note {
+            place,
+            message: b"it is opened here",
+        }),
+    )
+}
+
+/// The innermost open bracket behind all tokens, where it is no brace.
+pub fn open_list(alloc: Global, tokens: &[Token]) -> Result<Option<Note>, AllocError> {
+    if opened_before(tokens, tokens.len()).lists == 0 {
+        return Ok(None);
+    }
+    last_open(alloc, tokens)
 }

@@ -1,13 +1,19 @@
 // Names that a program never assigns or never uses.
 
 use crate::calls::{finding_at, kind_before, kind_behind, name_of};
-use crate::definitions::{Definition, definition_at, has_parameter, is_defining, name_at};
-use crate::finding::Finding;
+use crate::definitions::{Definition, definition_at, is_defining, name_at};
+use crate::finding::{Finding, joined};
 use crate::names::Names;
-use crate::special::is_special;
+use crate::near::NearNames;
+use crate::special::{foreign_variable_advice, is_foreign, is_special, word_advice};
 use awk_lex::token::{BuiltIn, Keyword, Kind, Token};
 use indexmap::{IndexMap, IndexSet};
 use std::alloc::{AllocError, Global};
+
+const NEVER_ASSIGNED: &[u8] = b"the variable is never assigned: ";
+
+/// The most names that one finding tells.
+const MOST_NAMES: usize = 8;
 
 /// What an open bracket belongs to.
 #[derive(Clone, Copy)]
@@ -99,55 +105,169 @@ impl GlobalScan {
 /// Whether a name at a token is one of its function's parameters, or the function's own.
 fn is_local(names: &Names, at: usize, name: &[u8]) -> bool {
     match definition_at(&names.all, at) {
-        Some(definition) => {
-            definition.name == at || has_parameter(names.tokens, definition, name)
-        }
+        Some(definition) => definition.name == at || definition.names.contains(name),
         None => false,
     }
 }
 
-/// Whether a name is assigned somewhere, or by something else.
-fn is_known(scan: &GlobalScan, given: &[Vec<u8>], name: &[u8]) -> bool {
-    is_special(name)
-        || scan.assigned.contains(name)
-        || given.iter().any(|other| other.as_slice() == name)
+/// Whether a name is assigned somewhere, or has a meaning of its own.
+fn is_known(scan: &GlobalScan, name: &[u8]) -> bool {
+    is_special(name) || is_foreign(name) || scan.assigned.contains(name)
 }
 
-/// What is told of a variable that is never assigned.
-fn unassigned_finding(alloc: Global, token: &Token, name: &[u8]) -> Result<Finding, AllocError> {
-    finding_at(
-        alloc,
-        token,
-        &[b"the variable is never assigned: ", name],
-        b"it is 0 and the empty text",
-    )
-}
-
-/// The first use of each variable of the whole program that is never assigned.
-fn never_assigned(
-    alloc: Global,
-    names: &Names,
-    given: &[Vec<u8>],
-    found: &mut Vec<Finding>,
-) -> Result<(), AllocError> {
+/// What is assigned in a program, and what isn't.
+fn scan_globals(alloc: Global, names: &Names, given: &[Vec<u8>]) -> Result<GlobalScan, AllocError> {
     let mut scan = GlobalScan {
         alloc,
         unassigned: IndexMap::new(alloc),
         assigned: IndexSet::new(alloc),
         owners: Vec::new(alloc),
     };
+    for name in given {
+        scan.assigned.insert(name.as_slice().to_vec(alloc)?)?;
+    }
     for (at, token) in names.tokens.iter().enumerate() {
         scan.step(names, at, token)?;
     }
+    Ok(scan)
+}
+
+/// The names that an unassigned one may be meant for.
+fn near_names(alloc: Global, names: &Names, scan: &GlobalScan) -> Result<NearNames, AllocError> {
+    let mut near = NearNames::new(alloc);
+    near.add_reserved()?;
+    for (function, _) in &names.functions {
+        near.add(function.as_slice())?;
+    }
+    for name in &scan.assigned {
+        near.add(name.as_slice())?;
+    }
+    Ok(near)
+}
+
+/// What to write instead of a variable that is never assigned, where that is likely.
+fn meant(alloc: Global, near: &NearNames, name: &[u8]) -> Result<Option<Vec<u8>>, AllocError> {
+    match word_advice(name) {
+        [] => match near.find(name)? {
+            Some(found) => Ok(Some(joined(alloc, &[b"did you mean ", found, b"?"])?)),
+            None => Ok(None),
+        },
+        advice => Ok(Some(advice.to_vec(alloc)?)),
+    }
+}
+
+/// What is told of variables that nothing assigns to and that are like no other, by their first tokens.
+fn given_finding(
+    alloc: Global,
+    tokens: &[Token],
+    rest: &[usize],
+) -> Result<Option<Finding>, AllocError> {
+    let Some(token) = rest.first().and_then(|at| tokens.get(*at)) else {
+        return Ok(None);
+    };
+    if rest.len() == 1 {
+        let message = [NEVER_ASSIGNED, name_of(token).unwrap_or(b"")];
+        return Ok(Some(finding_at(alloc, token, &message, b"it is 0 and the empty text")?));
+    }
+    let advice = b"each is 0 and the empty text, but where it is given, as by -v name=text";
+    let message = [b"nothing here assigns to these variables:".as_slice()];
+    let mut finding = finding_at(alloc, token, &message, advice)?;
+    for (count, at) in rest.iter().enumerate().take(MOST_NAMES) {
+        let comma = if count == 0 { b" ".as_slice() } else { b", " };
+        finding.message.extend_from_slice(comma)?;
+        finding.message.extend_from_slice(name_at(tokens, *at))?;
+    }
+    let others = rest.len().saturating_sub(MOST_NAMES);
+    if others > 0 {
+        let others = format!(in alloc; " and {others} more")?;
+        finding.message.extend_from_slice(others.as_bytes())?;
+    }
+    Ok(Some(finding))
+}
+
+/// The first use of each variable of the whole program that is never assigned, where another name is likely meant;
+/// the others in one finding.
+fn never_assigned(
+    alloc: Global,
+    names: &Names,
+    given: &[Vec<u8>],
+    found: &mut Vec<Finding>,
+) -> Result<(), AllocError> {
+    let scan = scan_globals(alloc, names, given)?;
+    let mut unknown = Vec::new(alloc);
     for (name, at) in &scan.unassigned {
-        if is_known(&scan, given, name.as_slice()) {
-            continue;
-        }
-        if let Some(token) = names.tokens.get(*at) {
-            found.push(unassigned_finding(alloc, token, name.as_slice())?)?;
+        if !is_known(&scan, name.as_slice()) {
+            unknown.push(*at)?;
         }
     }
+    if unknown.is_empty() {
+        return Ok(());
+    }
+    let near = near_names(alloc, names, &scan)?;
+    let mut rest = Vec::new(alloc);
+    for at in unknown.as_slice() {
+        let Some(token) = names.tokens.get(*at) else {
+            continue;
+        };
+        let name = name_at(names.tokens, *at);
+        match meant(alloc, &near, name)? {
+            Some(advice) => {
+                found.push(finding_at(alloc, token, &[NEVER_ASSIGNED, name], &advice)?)?;
+            }
+            None => rest.push(*at)?,
+        }
+    }
+    if let Some(finding) = given_finding(alloc, names.tokens, &rest)? {
+        found.push(finding)?;
+    }
     Ok(())
+}
+
+/// The first use of each variable that is gawk's own.
+fn foreign(alloc: Global, names: &Names, found: &mut Vec<Finding>) -> Result<(), AllocError> {
+    let mut told: IndexSet<Vec<u8>> = IndexSet::new(alloc);
+    for (at, token) in names.tokens.iter().enumerate() {
+        let Kind::Name(name) = &token.kind else {
+            continue;
+        };
+        let name = name.as_slice();
+        if !is_foreign(name) || told.contains(name) || is_local(names, at, name) {
+            continue;
+        }
+        told.insert(name.to_vec(alloc)?)?;
+        let message = [
+            b"a variable like any other, in gawk it has a meaning: ".as_slice(),
+            name,
+        ];
+        found.push(finding_at(alloc, token, &message, foreign_variable_advice(name))?)?;
+    }
+    Ok(())
+}
+
+/// Whether a program has an item that is no function.
+fn has_rules(names: &Names) -> bool {
+    let mut behind = 0usize;
+    for definition in names.all.as_slice() {
+        let between = names
+            .tokens
+            .get(behind..definition.name.saturating_sub(1))
+            .unwrap_or(&[]);
+        if has_item(between) {
+            return true;
+        }
+        behind = definition.end.saturating_add(1);
+    }
+    has_item(names.tokens.get(behind..).unwrap_or(&[]))
+}
+
+/// Whether anything stands between two functions.
+fn has_item(tokens: &[Token]) -> bool {
+    for token in tokens {
+        if !matches!(token.kind, Kind::Newline | Kind::Semicolon) {
+            return true;
+        }
+    }
+    false
 }
 
 /// The names that are called.
@@ -163,23 +283,27 @@ fn called_names(alloc: Global, tokens: &[Token]) -> Result<IndexSet<Vec<u8>>, Al
     Ok(called)
 }
 
-/// Whether a parameter stands in its function's body.
-fn is_used(tokens: &[Token], definition: &Definition, parameter: usize) -> bool {
+/// The names that stand in a function's body.
+fn body_names(
+    alloc: Global,
+    tokens: &[Token],
+    definition: &Definition,
+) -> Result<IndexSet<Vec<u8>>, AllocError> {
+    let mut used = IndexSet::new(alloc);
     let last = definition
         .parameters
         .last()
         .copied()
         .unwrap_or(definition.name);
-    let name = name_at(tokens, parameter);
     let body = tokens
         .get(last.saturating_add(1)..definition.end)
         .unwrap_or(&[]);
     for token in body {
-        if name_of(token) == Some(name) {
-            return true;
+        if let Some(name) = name_of(token) {
+            used.insert(name.to_vec(alloc)?)?;
         }
     }
-    false
+    Ok(used)
 }
 
 /// The parameters of a function that are never used.
@@ -189,12 +313,16 @@ fn unused_parameters(
     definition: &Definition,
     found: &mut Vec<Finding>,
 ) -> Result<(), AllocError> {
+    if definition.parameters.is_empty() {
+        return Ok(());
+    }
+    let used = body_names(alloc, tokens, definition)?;
     for parameter in definition.parameters.as_slice() {
         let Some(token) = tokens.get(*parameter) else {
             continue;
         };
-        if !is_used(tokens, definition, *parameter) {
-            let name = name_at(tokens, *parameter);
+        let name = name_at(tokens, *parameter);
+        if !used.contains(name) {
             let finding = finding_at(alloc, token, &[b"the parameter is never used: ", name], b"")?;
             found.push(finding)?;
         }
@@ -210,10 +338,13 @@ pub(crate) fn add_unused(
     found: &mut Vec<Finding>,
 ) -> Result<(), AllocError> {
     never_assigned(alloc, names, given, found)?;
+    foreign(alloc, names, found)?;
+    let is_library = !has_rules(names);
     let called = called_names(alloc, names.tokens)?;
     for definition in names.all.as_slice() {
         let name = name_at(names.tokens, definition.name);
-        if let (false, Some(token)) = (called.contains(name), names.tokens.get(definition.name)) {
+        let is_called = is_library || called.contains(name);
+        if let (false, Some(token)) = (is_called, names.tokens.get(definition.name)) {
             let finding = finding_at(
                 alloc,
                 token,

@@ -2,10 +2,12 @@
 
 use crate::calls::{
     Stretch, arguments, finding_at, kind_before, kind_behind, name_of, only_token, place_of,
+    place_of_stretch,
 };
-use crate::definitions::{definition_at, definition_of, has_parameter, is_defining, name_at};
-use crate::finding::{Finding, joined};
+use crate::definitions::{definition_at, is_defining, name_at};
+use crate::finding::{Finding, Note, joined};
 use crate::names::Names;
+use crate::special::is_special;
 use awk_lex::token::{BuiltIn, Keyword, Kind, Token};
 use indexmap::IndexMap;
 use std::alloc::{AllocError, Global};
@@ -37,17 +39,25 @@ struct Passed {
     parameter: Vec<u8>,
 }
 
+/// An argument of a call that is no name alone.
+#[derive(Drop)]
+struct Computed {
+    stretch: Stretch,
+    parameter: Vec<u8>,
+}
+
 /// The variables of a program, each by the name of its function, a blank, and its own name.
 #[derive(Drop)]
 struct Variables {
     uses: IndexMap<Vec<u8>, Uses>,
     passed: Vec<Passed>,
+    computed: Vec<Computed>,
 }
 
 /// The key of the variable that a name is at a token.
 fn key_of(alloc: Global, names: &Names, at: usize, name: &[u8]) -> Result<Vec<u8>, AllocError> {
     match definition_at(&names.all, at) {
-        Some(definition) if has_parameter(names.tokens, definition, name) => {
+        Some(definition) if definition.names.contains(name) => {
             let function = name_at(names.tokens, definition.name);
             joined(alloc, &[function, b" ", name])
         }
@@ -81,6 +91,7 @@ impl Variables {
         Variables {
             uses: IndexMap::new(alloc),
             passed: Vec::new(alloc),
+            computed: Vec::new(alloc),
         }
     }
 
@@ -115,23 +126,31 @@ impl Variables {
         open: &mut Vec<usize>,
     ) -> Result<(), AllocError> {
         let function = name_at(names.tokens, at);
-        let Some(definition) = definition_of(names.tokens, &names.all, function) else {
+        let Some(definition) = names.definition_of(function) else {
             return Ok(());
         };
         for (count, stretch) in arguments(alloc, names.tokens, at)?.iter().enumerate() {
-            let Some(token) = name_argument(names.tokens, *stretch) else {
-                continue;
-            };
             let Some(parameter) = definition.parameters.get(count) else {
                 continue;
             };
             let parameter = name_at(names.tokens, *parameter);
-            open.push(token)?;
-            self.passed.push(Passed {
-                token,
-                variable: key_of(alloc, names, token, name_at(names.tokens, token))?,
-                parameter: joined(alloc, &[function, b" ", parameter])?,
-            })?;
+            let parameter = joined(alloc, &[function, b" ", parameter])?;
+            match name_argument(names.tokens, *stretch) {
+                Some(token) => {
+                    open.push(token)?;
+                    let name = name_at(names.tokens, token);
+                    let variable = key_of(alloc, names, token, name)?;
+                    self.passed.push(Passed {
+                        token,
+                        variable,
+                        parameter,
+                    })?;
+                }
+                None => self.computed.push(Computed {
+                    stretch: *stretch,
+                    parameter,
+                })?,
+            }
         }
         Ok(())
     }
@@ -226,12 +245,94 @@ impl Variables {
         }
         Ok(())
     }
+
+    fn is_array(&self, key: &[u8]) -> bool {
+        is_own_array(key) || self.uses_of(key).array.is_some()
+    }
+
+    /// A variable that is used against what it is.
+    fn misused(&self, alloc: Global, names: &Names) -> Result<Option<Finding>, AllocError> {
+        for (key, uses) in &self.uses {
+            if let (Some(array), Some(value)) = (uses.array, uses.value) {
+                return mixed_finding(alloc, names.tokens, array, value);
+            }
+            if let Some(array) = uses.array {
+                if is_own_value(key.as_slice()) {
+                    let told = b" is a value of awk's own, and no array";
+                    return named_finding(alloc, names.tokens, array, told, OWN_ADVICE);
+                }
+            }
+            if let Some(value) = uses.value {
+                if is_own_array(key.as_slice()) {
+                    let told = b" is an array of awk's own, and no value";
+                    return named_finding(alloc, names.tokens, value, told, OWN_ADVICE);
+                }
+            }
+        }
+        Ok(None)
+    }
+
+    /// An array that is passed where the function uses none, or another argument where it uses one.
+    fn mispassed(&self, alloc: Global, names: &Names) -> Result<Option<Finding>, AllocError> {
+        for passed in self.passed.as_slice() {
+            if self.is_array(&passed.variable) && !self.is_array(&passed.parameter) {
+                let told = b" is an array, and the function uses none here";
+                return named_finding(alloc, names.tokens, passed.token, told, UNUSED_ADVICE);
+            }
+        }
+        for computed in self.computed.as_slice() {
+            if self.is_array(&computed.parameter) {
+                let place = place_of_stretch(names.tokens, computed.stretch);
+                let message = [b": the function takes the name of an array here".as_slice()];
+                let advice = b"pass the name of an array, as split(\"\", a) makes an empty one";
+                return Ok(Some(Finding::new(alloc, place, &message, advice)?));
+            }
+        }
+        Ok(None)
+    }
+}
+
+const OWN_ADVICE: &[u8] = b"give yours another name";
+
+const UNUSED_ADVICE: &[u8] = b"in the function say that it is one: if (0) p[1]";
+
+/// Whether a key is that of an array of awk's own.
+fn is_own_array(key: &[u8]) -> bool {
+    key == b" ARGV".as_slice() || key == b" ENVIRON".as_slice()
+}
+
+/// Whether a key is that of a variable of awk's own that is no array.
+fn is_own_value(key: &[u8]) -> bool {
+    match key {
+        [b' ', name @ ..] => is_special(name) && !is_own_array(key),
+        _ => false,
+    }
+}
+
+/// What is told of the name at a token.
+fn named_finding(
+    alloc: Global,
+    tokens: &[Token],
+    at: usize,
+    told: &[u8],
+    advice: &[u8],
+) -> Result<Option<Finding>, AllocError> {
+    match tokens.get(at) {
+        Some(token) => {
+            let message = [b": ".as_slice(), name_of(token).unwrap_or(b""), told];
+            Ok(Some(finding_at(alloc, token, &message, advice)?))
+        }
+        None => Ok(None),
+    }
 }
 
 /// Whether a token stands in the list of a function's parameters, or is its name.
 fn is_parameter_list(names: &Names, at: usize) -> bool {
     match definition_at(&names.all, at) {
-        Some(definition) => definition.name == at || definition.parameters.contains(&at),
+        Some(definition) => match definition.parameters.last() {
+            Some(last) => at <= *last,
+            None => definition.name == at,
+        },
         None => false,
     }
 }
@@ -249,52 +350,42 @@ fn mixed_finding(
     let Some(other) = tokens.get(array.min(value)) else {
         return Ok(None);
     };
-    let told = if array < value {
-        b" is a value here, and an array elsewhere".as_slice()
+    let (told, elsewhere) = if array < value {
+        (
+            b" is a value here, and an array elsewhere".as_slice(),
+            b"it is an array here".as_slice(),
+        )
     } else {
-        b" is an array here, and a value elsewhere"
+        (
+            b" is an array here, and a value elsewhere".as_slice(),
+            b"it is a value here".as_slice(),
+        )
     };
     let name = name_of(token).unwrap_or(b"");
-    let mut finding = kind_finding(alloc, token, name, told)?;
-    finding.other = Some(place_of(other));
+    let advice = b"give one of them another name";
+    let mut finding = finding_at(alloc, token, &[b": ", name, told], advice)?;
+    finding.other = Some(Note {
+        place: place_of(other),
+        message: elsewhere,
+    });
     Ok(Some(finding))
-}
-
-/// What is told of a name's kind at a token.
-fn kind_finding(
-    alloc: Global,
-    token: &Token,
-    name: &[u8],
-    told: &[u8],
-) -> Result<Finding, AllocError> {
-    finding_at(
-        alloc,
-        token,
-        &[b": ", name, told],
-        b"give one of them another name",
-    )
-}
-
-/// Whether an argument that is no name stands where a built-in function takes an array.
-fn is_no_array(names: &Names, function: BuiltIn, arguments: &[Stretch]) -> bool {
-    match function {
-        BuiltIn::Split => match arguments.get(1) {
-            Some(stretch) => name_argument(names.tokens, *stretch).is_none(),
-            None => false,
-        },
-        _ => false,
-    }
 }
 
 /// The first argument of `split` that is no name where it takes an array.
 fn no_array(alloc: Global, names: &Names) -> Result<Option<Finding>, AllocError> {
     for (at, token) in names.tokens.iter().enumerate() {
-        let Kind::BuiltIn(function) = &token.kind else {
+        if !matches!(token.kind, Kind::BuiltIn(BuiltIn::Split)) {
+            continue;
+        }
+        let arguments = arguments(alloc, names.tokens, at)?;
+        let Some(stretch) = arguments.get(1) else {
             continue;
         };
-        if is_no_array(names, *function, &arguments(alloc, names.tokens, at)?) {
-            let message = b": split takes the name of an array behind the text";
-            return Ok(Some(finding_at(alloc, token, &[message.as_slice()], b"")?));
+        if name_argument(names.tokens, *stretch).is_none() {
+            let place = place_of_stretch(names.tokens, *stretch);
+            let message = b": split takes the name of an array here".as_slice();
+            let finding = Finding::new(alloc, place, &[message], b"write split(text, name)")?;
+            return Ok(Some(finding));
         }
     }
     Ok(None)
@@ -306,10 +397,11 @@ pub(crate) fn mixed(alloc: Global, names: &Names) -> Result<Option<Finding>, All
     let open = variables.add_arguments(alloc, names)?;
     variables.add_names(alloc, names, &open)?;
     variables.hand_all_on(alloc)?;
-    for uses in variables.uses.values() {
-        if let (Some(array), Some(value)) = (uses.array, uses.value) {
-            return mixed_finding(alloc, names.tokens, array, value);
-        }
+    if let Some(finding) = variables.misused(alloc, names)? {
+        return Ok(Some(finding));
+    }
+    if let Some(finding) = variables.mispassed(alloc, names)? {
+        return Ok(Some(finding));
     }
     no_array(alloc, names)
 }

@@ -1,12 +1,13 @@
 // What a program that is accepted may not mean, call by call.
 
 use crate::calls::{
-    arguments, constant_of, finding_at, kind_before, kind_behind, only_token, place_of_stretch,
-    string_of, text_of,
+    arguments, constant_of, finding_at, kind_before, kind_behind, only_token, place_in_string,
+    place_of_stretch, stands_alone, string_of, text_of,
 };
 use crate::finding::{Finding, joined, shown};
 use crate::formats::format_fault;
 use crate::patterns::ere_fault;
+use crate::syntax::REMARKS;
 use awk_ere::{Pattern, PatternFault};
 use awk_lex::token::{AssignmentOperator, BuiltIn, Keyword, Kind, Operator, Token};
 use std::alloc::{AllocError, Global};
@@ -89,6 +90,16 @@ impl<'a> Warnings<'a> {
             is_escaped = *byte == b'\\' && !is_escaped;
         }
         Ok(())
+    }
+
+    /// An empty ERE before a word.
+    fn add_remark(&mut self, at: usize, token: &Token) -> Result<(), AllocError> {
+        match kind_behind(self.tokens, at, 1) {
+            Some(Kind::Name(_) | Kind::Called(_)) => {
+                self.add(token, &[b"an empty pattern, joined to a word"], REMARKS)
+            }
+            _ => Ok(()),
+        }
     }
 
     /// `substr` from a constant below 1.
@@ -190,6 +201,9 @@ impl<'a> Warnings<'a> {
 
     /// A string that is a format.
     fn add_format(&mut self, at: usize) -> Result<(), AllocError> {
+        if !stands_alone(self.tokens, at) {
+            return Ok(());
+        }
         let Some(token) = self.tokens.get(at) else {
             return Ok(());
         };
@@ -204,7 +218,10 @@ impl<'a> Warnings<'a> {
             b"no directive, fault 7 when it is met: ".as_slice(),
             shown(directive),
         ];
-        self.add(token, &message, fault.advice)
+        let place = place_in_string(self.text, token, fault.start, fault.end);
+        let finding = Finding::new(self.alloc, Some(place), &message, fault.advice)?;
+        self.found.push(finding)?;
+        Ok(())
     }
 
     /// The format of `printf`, perhaps behind a parenthesis.
@@ -258,7 +275,11 @@ impl<'a> Warnings<'a> {
         let Some(Kind::Name(name)) = kind_before(self.tokens, at, 1) else {
             return Ok(());
         };
-        let Some(token) = self.tokens.get(at.saturating_add(1)) else {
+        let behind = at.saturating_add(1);
+        if !stands_alone(self.tokens, behind) {
+            return Ok(());
+        }
+        let Some(token) = self.tokens.get(behind) else {
             return Ok(());
         };
         let Kind::String(bytes) = &token.kind else {
@@ -283,12 +304,14 @@ impl<'a> Warnings<'a> {
             Kind::Keyword(Keyword::Printf) => self.add_printf(at),
             Kind::Operator(Operator::Less) => self.add_input(at),
             Kind::Operator(Operator::Matches | Operator::NotMatches) => {
-                match self.tokens.get(at.saturating_add(1)) {
-                    Some(token) => self.add_dynamic(token),
-                    None => Ok(()),
+                let behind = at.saturating_add(1);
+                match self.tokens.get(behind) {
+                    Some(token) if stands_alone(self.tokens, behind) => self.add_dynamic(token),
+                    _ => Ok(()),
                 }
             }
             Kind::Assign(AssignmentOperator::Plain) => self.add_separator(at),
+            Kind::Ere(ere) if ere.as_slice().is_empty() => self.add_remark(at, token),
             Kind::Ere(_) => self.add_edge(token),
             _ => Ok(()),
         }

@@ -21,7 +21,7 @@ use Rattle.awk_semantics.specs.definitions.Semantics.{Functions, choose}
 use Rattle.awk_semantics.specs.definitions.Calls.{functions_within}
 use Rattle.awk_semantics.specs.definitions.Items.{try_items, until_next, unless_exit, until_exit, each_record, run_records, has_rule, begin_items, end_item, end_items, run_before_end, run_items}
 use Rattle.awk_semantics.specs.definitions.Meaning.{StartValues, start_state, assign_all, assign_and_run, with_end, run_program, outcome_of, outputs_from, outputs_after, meaning_of}
-use Rattle.awk_pieces.specs.definitions.Pieceable.{is_counter, knows, is_rule_for_itself, are_rules_for_themselves, IsPieceable}
+use Rattle.awk_pieces.specs.definitions.Pieceable.{tells_apart, knows, is_rule_for_itself, are_rules_for_themselves, IsPieceable}
 use Rattle.awk_pieces.specs.definitions.LawOfPieces.{EndsLine, Gives, StartsPlainly, Prints, LawOfPieces}
 use Rattle.awk_pieces.proofs.Alike.{Outer, Sorts, Values, state_on, AgreeOn, ArePlain, plain_append, behind, Covers, Alike}
 use Rattle.awk_pieces.proofs.ReadsAlike.{left_true, right_true}
@@ -104,9 +104,9 @@ pub no_true : (b : Bool) → b ≡ true → not b ≡ true → ⊥
 no_true true e f = cc
 no_true false e f = cc
 
-uncounted : (name x : List ℕ) → is_counter name ≡ true → knows x ≡ true → bytes_eq name x ≡ false
+uncounted : (name x : List ℕ) → tells_apart name ≡ true → knows x ≡ true → bytes_eq name x ≡ false
 uncounted name x counter known = elim (cases_Bool (bytes_eq name x)) [
-  | inl same ↦ absurd (no_true (is_counter x) (ap is_counter (sym ((bytes_eq-Decides name x).0 same)) ∙ counter) known)
+  | inl same ↦ absurd (no_true (tells_apart x) (ap tells_apart (sym ((bytes_eq-Decides name x).0 same)) ∙ counter) known)
   | inr other ↦ other
 ]
 

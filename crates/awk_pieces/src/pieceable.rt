@@ -2,7 +2,7 @@
 
 ghost use Rattle.std.specs.Prelude.{◌≡◌, ◌↔◌, true};
 ghost use Rattle.awk_grammar.specs.View as g;
-ghost use Rattle.awk_pieces.specs.definitions.Pieceable.{is_counter, is_of_record, third_is_of_record, may_be_called, keeps_to_record, all_keep_to_record, list_keeps_to_record, is_standard, is_simple_for_itself, is_for_itself, are_for_themselves, leaves_records, is_plain, may_be_set, is_setting, is_simple_setting, only_sets, all_only_set, pattern_keeps_to_record, is_rule_for_itself, are_rules_for_themselves, knows, IsPieceable};
+ghost use Rattle.awk_pieces.specs.definitions.Pieceable.{is_counter, is_of_start, tells_apart, is_of_record, third_is_of_record, may_be_called, keeps_to_record, all_keep_to_record, list_keeps_to_record, is_standard, is_simple_for_itself, is_for_itself, are_for_themselves, leaves_records, is_plain, may_be_set, is_setting, is_simple_setting, only_sets, all_only_set, pattern_keeps_to_record, is_rule_for_itself, are_rules_for_themselves, knows, IsPieceable};
 ghost use Rattle.awk_pieces.specs.support.Readable.{names_of};
 
 use awk_grammar::tree::{Expr, Item, Output, Pattern, PrintList, SimpleStatement, Statement, Tree};
@@ -13,7 +13,7 @@ use awk_lex::token::{AssignmentOperator, BuiltIn};
 enum Readable {
     /// All: before the records each has the same value in any piece.
     All,
-    /// Those that are no counters.
+    /// Those that are the same on each piece.
     Steady,
 }
 
@@ -24,13 +24,27 @@ fn is_counter(name: &[u8]) -> bool
     name == b"NR".as_slice() || name == b"FNR".as_slice() || name == b"FILENAME".as_slice()
 }
 
+/// Whether the variable tells what the run was started with.
+fn is_of_start(name: &[u8]) -> bool
+    ensures { result ≡ is_of_start name.now }
+{
+    name == b"ARGC".as_slice() || name == b"ARGV".as_slice() || name == b"ENVIRON".as_slice()
+}
+
+/// Whether the variable may be another on each piece of an input.
+fn tells_apart(name: &[u8]) -> bool
+    ensures { result ≡ tells_apart name.now }
+{
+    is_counter(name) || is_of_start(name)
+}
+
 /// Whether an assignment to the variable before the run changes neither how records are found nor
 /// their count (POSIX awk, Variables and Special Variables).
 pub fn leaves_records(name: &[u8]) -> bool
     ensures { result ≡ leaves_records name.now }
 {
-    let finds = name == b"RS".as_slice() || name == b"ARGC".as_slice() || name == b"NF".as_slice();
-    !(is_counter(name) || finds)
+    let finds = name == b"RS".as_slice() || name == b"NF".as_slice();
+    !(tells_apart(name) || finds)
 }
 
 fn is_readable(readable: Readable, name: &[u8]) -> bool
@@ -38,7 +52,7 @@ fn is_readable(readable: Readable, name: &[u8]) -> bool
 {
     match readable {
         Readable::All => true,
-        Readable::Steady => !is_counter(name),
+        Readable::Steady => !tells_apart(name),
     }
 }
 

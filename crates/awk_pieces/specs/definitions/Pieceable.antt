@@ -10,9 +10,17 @@ use Rattle.awk_grammar.specs.Tree.{Expr, Number, String, Ere, Name, Field, Group
 abbrev pub is_counter : List ℕ → Bool
 is_counter x = bytes_eq x (codes "NR") || (bytes_eq x (codes "FNR") || bytes_eq x (codes "FILENAME"))
 
+-- the variables that tell what the run was started with
+abbrev pub is_of_start : List ℕ → Bool
+is_of_start x = bytes_eq x (codes "ARGC") || (bytes_eq x (codes "ARGV") || bytes_eq x (codes "ENVIRON"))
+
+-- the variables that may be others on each piece of an input
+abbrev pub tells_apart : List ℕ → Bool
+tells_apart x = is_counter x || is_of_start x
+
 -- an assignment before the records that changes neither how records are found nor their count
 abbrev pub leaves_records : List ℕ → Bool
-leaves_records x = not (is_counter x || (bytes_eq x (codes "RS") || (bytes_eq x (codes "ARGC") || bytes_eq x (codes "NF"))))
+leaves_records x = not (tells_apart x || (bytes_eq x (codes "RS") || bytes_eq x (codes "NF")))
 
 -- a place in the record: a field, or NF
 abbrev pub is_of_record : (place : Expr) → Bool
@@ -134,9 +142,9 @@ module _ (known : List ℕ → Bool) where
   are_rules_for_themselves [] = true
   are_rules_for_themselves (x ∷ xs) = is_rule_for_itself x && are_rules_for_themselves xs
 
--- a program that treats each record for itself: rules that read no counter of records
+-- a program that treats each record for itself: rules that read nothing that tells pieces apart
 abbrev pub knows : List ℕ → Bool
-knows x = not (is_counter x)
+knows x = not (tells_apart x)
 
 abbrev pub IsPieceable : List Item → Type 0
 IsPieceable items = are_rules_for_themselves knows items ≡ true

@@ -1,0 +1,1 @@
+BEGIN { x := 1; print x }

@@ -1,0 +1,1 @@
+BEGIN { "date" |& getline x; print x }

@@ -1,0 +1,1 @@
+BEGIN { int x = 1; print x }

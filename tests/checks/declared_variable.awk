@@ -1,0 +1,1 @@
+BEGIN { var x = 1; print x }

@@ -1,0 +1,1 @@
+BEGIN { for i in a print i; a[1] }

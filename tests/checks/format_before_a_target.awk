@@ -1,0 +1,1 @@
+{ printf "%y" > "out"; printf("%z"); printf "%y" | "cat" }

@@ -1,0 +1,1 @@
+BEGIN { printf "\t\101\"a%ey\n", 1 }

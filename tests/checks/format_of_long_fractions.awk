@@ -1,0 +1,1 @@
+BEGIN { printf "%5.2lf\n", 1 }

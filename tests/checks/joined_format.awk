@@ -1,0 +1,1 @@
+BEGIN { w = 5; printf "%-" w "s|\n", "a" }

@@ -1,0 +1,1 @@
+BEGIN { w = 5; s = sprintf("%" w "d", 3); print s }

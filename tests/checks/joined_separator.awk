@@ -1,0 +1,1 @@
+BEGIN { re = "x"; FS = "(a" re ")" } { print $1 }

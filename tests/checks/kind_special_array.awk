@@ -1,0 +1,1 @@
+BEGIN { ENVIRON = 3 }

@@ -1,0 +1,1 @@
+function f(p) { return p + 1 } BEGIN { print f(ARGV) }

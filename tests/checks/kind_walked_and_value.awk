@@ -1,0 +1,1 @@
+{ for (k in seen) print k; seen = $1 }

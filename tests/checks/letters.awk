@@ -1,0 +1,1 @@
+{ s = "äöü"; t = "あい"; print s t totla } END { total = 1 }

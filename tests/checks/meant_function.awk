@@ -1,0 +1,1 @@
+{ print lenght($0) }

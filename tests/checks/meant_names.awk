@@ -1,0 +1,3 @@
+{ total += $1; n++ }
+end { print totla, Total }
+n > 9 { pritn; print true }

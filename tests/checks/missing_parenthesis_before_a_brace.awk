@@ -1,0 +1,1 @@
+{ print toupper(substr($1,1,1) substr($1,2) }

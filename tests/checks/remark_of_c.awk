@@ -1,0 +1,2 @@
+/* the first field */
+{ print $1 }

@@ -1,0 +1,3 @@
+BEGIN { IGNORECASE = 1; FPAT = "[a-z]+" }
+BEGINFILE { print FILENAME }
+/a/ { print RT, PROCINFO["pid"] }
