@@ -1,8 +1,8 @@
 // Runs that write to files and to commands, in a world in memory that grants them and gives numbers for commands.
 
-use crate::worlds::{grant, was_given};
+use crate::worlds::{all_closed, grant, was_given};
 use awk_command::main_words;
-use awk_streams::{Answer, Entry, OutputKind, ScriptWorld};
+use awk_streams::{Answer, Entry, OUTPUT_BUFFER_SIZE, OutputKind, ScriptWorld};
 use std::alloc::{AllocError, Global};
 use std::process::Abort;
 use std::test::Fail;
@@ -98,6 +98,24 @@ fn named_outputs(rt: HostRuntime) -> Result<(), Fail> {
     ] {
         assert!(rt; leaves(alloc, program, status, output, named)?, "{program}");
     }
+    Ok(())
+}
+
+#[test]
+fn behind_a_failed_write(rt: HostRuntime) -> Result<(), Fail> {
+    let alloc = rt.alloc();
+    let program = r#"BEGIN { print 1 | "c"; print 2 > "x"; print 3 > "f0"; print 4 }"#;
+    let words = vec![in alloc; program.as_bytes().to_vec(alloc)?]?;
+    let mut world = ScriptWorld::new(alloc, answers(alloc)?);
+    world.buffer_outputs(OUTPUT_BUFFER_SIZE);
+    // Standard output and the command are written to before the file of which the write fails.
+    world.fail_write(3);
+    let status = main_words(alloc, &words, Vec::new(alloc), &mut world);
+    assert!(rt; status == 2);
+    assert!(rt; was_given(&world, 0, b"4\n")?);
+    assert!(rt; was_given(&world, 1, b"awk: fault 2: write failed\n")?);
+    assert!(rt; written(alloc, &world)?.as_slice() == "c:1\nx:f0:3\n".as_bytes());
+    assert!(rt; all_closed(&world));
     Ok(())
 }
 

@@ -86,3 +86,22 @@ pub fn outputs_of(alloc: Global, world: &ScriptWorld) -> Result<Vec<Vec<u8>>, Al
 pub fn was_given(world: &ScriptWorld, id: u64, bytes: &[u8]) -> Result<bool, AllocError> {
     Ok(world.received(id)?.as_slice() == bytes)
 }
+
+fn is_opening(entry: &Entry) -> bool {
+    matches!(
+        entry,
+        Entry::OpenedInput(_, _, Some(_)) | Entry::OpenedOutput(_, _, _, Some(_))
+    )
+}
+
+fn is_closing(entry: &Entry) -> bool {
+    matches!(entry, Entry::Closed(_, _))
+}
+
+/// Whether all that was opened was closed: each closing is of what stands open, so as many are enough.
+pub fn all_closed(world: &ScriptWorld) -> bool {
+    let entries = world.entries();
+    let openings = entries.iter().filter(|entry| is_opening(entry)).count();
+    let closings = entries.iter().filter(|entry| is_closing(entry)).count();
+    openings == closings
+}

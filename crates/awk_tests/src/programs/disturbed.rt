@@ -3,7 +3,7 @@
 ghost use Rattle.std.specs.Prelude.{◌≤◌};
 
 use crate::rows::{Row, expect_rows, rows_of};
-use crate::worlds::{break_off, copy_of, cut_up, len_of, outputs_of};
+use crate::worlds::{all_closed, break_off, copy_of, cut_up, len_of, outputs_of};
 use awk_command::{CommandLine, ProgramSource, read_command_line};
 use awk_run::{Fault, Outcome, Start, execute};
 use awk_streams::{Answer, Entry, OUTPUT_BUFFER_SIZE, ScriptWorld};
@@ -354,6 +354,10 @@ fn expect_failures(
             left.broke_off(failure.outcome(), whole)
                 || is_fault && left.broke_off(whole.outcome, whole),
             "call {k} fails in the row that ends on line {line}"
+        );
+        assert!(rt;
+            all_closed(&left.world),
+            "what stands open where call {k} fails in the row that ends on line {line}"
         );
     }
     Ok(())
