@@ -1,30 +1,50 @@
-# Builds, tests and installs the program and its checker.
+# Builds, tests, installs and packs the program and its checker.
 .POSIX:
-.PHONY: build test gate install uninstall
+.PHONY: all build test check gate dist install uninstall clean
 
 PREFIX = /usr/local
+BINDIR = $(PREFIX)/bin
+MANDIR = $(PREFIX)/share/man
+DOCDIR = $(PREFIX)/share/doc/awk-proved
 
-# The launchers build what isn't there or isn't new, and this program reads and prints nothing.
+all: build
+
+# What isn't made of the sources as they are is proved and built.
 build:
-	./awk '{ print }' </dev/null
-	./awk-check '{ print }' </dev/null
+	.ci/prove awk
+	.ci/prove awk_check_program
 
-# The program over files, pipes and devices, and the checker over programs.
+# The program over files, pipes and devices, the checker over programs, and what the pages show of both.
 test: build
 	tests/program out/awk
 	tests/check out/awk-check
+	tests/documents out/awk out/awk-check
+
+check: test
 
 # That, every proof from nothing, the tests in memory and the must-fail edits.
 gate:
 	.ci/run
 
+# The proved executables, manual pages and examples, in a file for machines without the kit.
+dist: build
+	.ci/dist
+
 install: build
-	install -d "$(DESTDIR)$(PREFIX)/bin" "$(DESTDIR)$(PREFIX)/share/man/man1"
-	install -m 755 out/awk "$(DESTDIR)$(PREFIX)/bin/awk"
-	install -m 755 out/awk-check "$(DESTDIR)$(PREFIX)/bin/awk-check"
-	install -m 644 awk.1 "$(DESTDIR)$(PREFIX)/share/man/man1/awk.1"
-	install -m 644 awk-check.1 "$(DESTDIR)$(PREFIX)/share/man/man1/awk-check.1"
+	install -d "$(DESTDIR)$(BINDIR)" "$(DESTDIR)$(MANDIR)/man1" "$(DESTDIR)$(DOCDIR)/examples"
+	install -m 755 out/awk "$(DESTDIR)$(BINDIR)/awk"
+	install -m 755 out/awk-check "$(DESTDIR)$(BINDIR)/awk-check"
+	install -m 644 awk.1 "$(DESTDIR)$(MANDIR)/man1/awk.1"
+	install -m 644 awk-check.1 "$(DESTDIR)$(MANDIR)/man1/awk-check.1"
+	install -m 644 docs/LANGUAGE.md docs/SCALE.md "$(DESTDIR)$(DOCDIR)"
+	install -m 644 examples/*.* "$(DESTDIR)$(DOCDIR)/examples"
+	chmod 755 "$(DESTDIR)$(DOCDIR)"/examples/*.sh
 
 uninstall:
-	rm -f "$(DESTDIR)$(PREFIX)/bin/awk" "$(DESTDIR)$(PREFIX)/share/man/man1/awk.1"
-	rm -f "$(DESTDIR)$(PREFIX)/bin/awk-check" "$(DESTDIR)$(PREFIX)/share/man/man1/awk-check.1"
+	rm -f "$(DESTDIR)$(BINDIR)/awk" "$(DESTDIR)$(MANDIR)/man1/awk.1"
+	rm -f "$(DESTDIR)$(BINDIR)/awk-check" "$(DESTDIR)$(MANDIR)/man1/awk-check.1"
+	rm -rf "$(DESTDIR)$(DOCDIR)"
+
+# What builds leave; what rt keeps in each crate, too, so that the next build proves everything.
+clean:
+	rm -rf out crates/*/out
