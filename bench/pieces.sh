@@ -13,7 +13,7 @@ rounds=${1:-3} megabytes=${2:-1000} jobs=${3:-4}
 . "$root/bench/rounds.sh"
 names='one pieces'
 # `awk-check --pieces` answers yes of it. It prints a quarter of the lines.
-program='NF == 6 && $5 >= 400 { print $1, $5, $4 }'
+program=$root/examples/errors.awk
 
 # Two megabytes, 40,000 lines of 50 bytes, as often as is needed.
 seq 10000 49999 |
@@ -27,9 +27,9 @@ done >"$work/log"
 # Runs it in one way, and notes the seconds.
 measure() {
     case $1 in
-    one) set -- "$1" "$executable" "$program" "$work/log" ;;
+    one) set -- "$1" "$executable" -f "$program" "$work/log" ;;
     *) set -- "$1" parallel --quote --pipepart --keep-order --jobs "$jobs" --block -1 --halt now,fail=1 \
-        --arg-file "$work/log" "$executable" "$program" ;;
+        --arg-file "$work/log" "$executable" -f "$program" ;;
     esac
     name=$1
     shift
