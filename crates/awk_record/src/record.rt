@@ -207,17 +207,6 @@ impl Record {
         }
     }
 
-    /// The fields and what stands between them in the text, where that is still to be made of them.
-    #[inline(always)]
-    pub fn unjoined(&self) -> Option<(&[Value], &[u8])>
-        ensures { IfSome result (λ parts. self.now.text ≡ joined parts.1.now parts.0.now) }
-    {
-        match self.form {
-            Form::Assigned => Some((self.values.as_slice(), self.output_separator.as_slice())),
-            Form::Split | Form::Joined => None,
-        }
-    }
-
     /// How many fields the record has, where that is known without a search.
     #[inline(always)]
     pub fn known_count(&self) -> Option<usize>

@@ -1,6 +1,6 @@
 // What is kept at a key.
 
-ghost use Rattle.std.specs.Prelude.{◌≡◌, not, None, IfSome, IfNone, IfErr, OnOk, OnErr};
+ghost use Rattle.std.specs.Prelude.{◌≡◌, [], not, None, IfSome, IfNone, IfErr, OnOk, OnErr};
 ghost use Rattle.std.specs.Map.{lookup};
 ghost use Rattle.indexmap.specs.IndexMap.{insert_entry, swap_remove_entry, IsUnchanged};
 ghost use Rattle.awk_value.specs.support.DenseKeys.{is_gone};
@@ -74,4 +74,14 @@ pub(crate) fn take_entry<K: Eq + Hash + Drop>(entries: &mut Entries<K>, key: &K)
     ensures { entries.new.entries ≡ swap_remove_entry (K.eq key.now) entries.old.entries }
 {
     let _ = entries.swap_remove(key);
+}
+
+/// Empties a map, and gives back the memory of more keys than it held, so that clearing it costs
+/// what it held and not the most that it ever did.
+pub(crate) fn clear_entries<K: Eq + Hash + Drop>(entries: &mut Entries<K>)
+    ensures { entries.new.entries ≡ [] }
+{
+    let held = entries.len();
+    entries.clear();
+    entries.shrink_to(held);
 }

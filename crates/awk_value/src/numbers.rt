@@ -11,7 +11,7 @@ ghost use Rattle.awk_value.specs.support.Lending.{LendsNumber};
 ghost use Rattle.awk_value.specs.declared.fault.ValueFault.TheVariants.{Memory};
 
 use crate::dense::Dense;
-use crate::entry::{Entries, Entry, add_entry, take_entry};
+use crate::entry::{Entries, Entry, add_entry, clear_entries, take_entry};
 use crate::hashing::Secret;
 use crate::{Value, ValueFault};
 use indexmap::IndexMap;
@@ -118,6 +118,6 @@ impl Numbers {
         ensures { self.new ≡ [] }
     {
         self.dense.clear();
-        self.sparse.clear();
+        clear_entries(&mut self.sparse);
     }
 }

@@ -11,7 +11,7 @@ ghost use Rattle.awk_value.specs.declared.fault.ValueFault.TheVariants.{Memory};
 ghost use Rattle.awk_value.specs.definitions.Arrays.{Array, value_at, with_pair, with_key, without, HasDistinctKeys};
 
 use crate::decimal::decimal_number;
-use crate::entry::Entries;
+use crate::entry::{Entries, clear_entries};
 use crate::hashing::Secret;
 use crate::numbers::Numbers;
 use crate::short_text::ShortText;
@@ -187,8 +187,8 @@ impl Table {
         ensures { self.new ≡ [] }
     {
         self.numbers.clear();
-        self.shorts.clear();
-        self.longs.clear();
+        clear_entries(&mut self.shorts);
+        clear_entries(&mut self.longs);
         self.next = 0;
     }
 }

@@ -3,5 +3,5 @@ use Rattle.awk_value.proofs.table.Table.clear.Goals as goal
 
 pub invariant_of-self : goal.invariant_of-self
 invariant_of-self c =
-    none-kept 0 c.clear.new.self c.clear-2.new.self.entries c.clear-3.new.self.entries c.clear.ensures
-    c.clear-2.ensures.empty c.clear-3.ensures.empty
+    none-kept 0 c.clear.new.self c.clear_entries.new.entries.entries c.clear_entries-2.new.entries.entries c.clear.ensures
+    c.clear_entries.ensures c.clear_entries-2.ensures
