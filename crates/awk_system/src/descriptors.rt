@@ -1,36 +1,49 @@
 // The descriptors 0 to 2 where the process was started without them.
 
 ghost use Rattle.std.specs.Prelude.{◌≤ℤ◌, IfSome, pos};
-ghost use Rattle.std.specs.Fd.{file_raw_fd};
+ghost use Rattle.std.specs.Fd.{owned_raw_fd};
 
 use std::fs::{File, Files};
-use std::os::fd::AsRawFd;
+use std::io::pipe;
+use std::os::fd::{AsRawFd, OwnedFd};
 
-/// What can be opened anywhere, and neither read nor written: a directory.
+/// What can be opened nearly anywhere, and neither read nor written: a directory.
 const NO_STREAM: &str = "/";
 
 /// The greatest descriptor of a standard stream.
 const STANDARD_ERROR: i32 = 2;
 
 /// Descriptors of standard streams that this process was started without. As long as they are held, no file and no pipe is
-/// given one of them: a write to such a standard output fails, and so does a read of such a standard input. Commands don't have
-/// them.
+/// given one of them: a write to such a standard output fails, and so does a read of such a standard input, which is empty only
+/// where the directory can't be opened. Commands don't have them.
 #[derive(Drop)]
 pub struct HeldDescriptors {
-    first: Option<File>,
-    second: Option<File>,
-    third: Option<File>,
+    first: Option<OwnedFd>,
+    second: Option<OwnedFd>,
+    third: Option<OwnedFd>,
+}
+
+/// A descriptor that can't be written: of a directory, or, where that can't be opened, the reading end of a pipe without a
+/// writer.
+fn open_no_stream<R: Files<File = File>>(runtime: &R) -> Option<OwnedFd> {
+    match File::open(runtime, NO_STREAM) {
+        Ok(file) => Some(OwnedFd::from(file)),
+        Err(_) => {
+            let (reader, _writer) = pipe(runtime).ok()?;
+            Some(OwnedFd::from(reader))
+        }
+    }
 }
 
 /// Takes the least descriptor that is free, where it is one of a standard stream.
-fn hold_one<R: Files<File = File>>(runtime: &R) -> Option<File>
-    ensures { IfSome result (λ file. file_raw_fd file ≤ℤ pos 2) }
+fn hold_one<R: Files<File = File>>(runtime: &R) -> Option<OwnedFd>
+    ensures { IfSome result (λ descriptor. owned_raw_fd descriptor ≤ℤ pos 2) }
 {
-    let file = File::open(runtime, NO_STREAM).ok()?;
-    if file.as_raw_fd() > STANDARD_ERROR {
+    let descriptor = open_no_stream(runtime)?;
+    if descriptor.as_raw_fd() > STANDARD_ERROR {
         return None;
     }
-    Some(file)
+    Some(descriptor)
 }
 
 impl HeldDescriptors {
