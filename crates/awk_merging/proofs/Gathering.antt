@@ -2,21 +2,21 @@
 use Rattle.std.proofs.Common.{◌≡◌, ◌⊎◌, inl, inr, ℕ, Bool, true, false, List, [], ◌∷◌, ◌++◌, refl, sym, ap, ◌∙◌, subst, bytes_eq}
 use Rattle.std.proofs.lemmas.Bool.{cases_Bool, cond-true, cond-false}
 use Rattle.std.proofs.lemmas.Slice.Eq.{bytes_eq-Decides}
-use Rattle.awk_merging.specs.definitions.Gathering.{Way, IsReplayable, Table, Updates, updated, gathered, replayed, of_parts, merged, LawOfGathering}
+use Rattle.awk_merging.specs.definitions.Gathering.{Way, IsReplayable, Table, IsFree, Updates, updated, gathered, replayed, of_parts, merged, LawOfGathering}
 
 -- keys
 
-same_key : (a b : List ℕ) → bytes_eq a b ≡ true → a ≡ b
+pub same_key : (a b : List ℕ) → bytes_eq a b ≡ true → a ≡ b
 same_key a b e = (bytes_eq-Decides a b).0 e
 
-own_key : (a : List ℕ) → bytes_eq a a ≡ true
+pub own_key : (a : List ℕ) → bytes_eq a a ≡ true
 own_key a = (bytes_eq-Decides a a).1 refl
 
-not_both : (b : Bool) → b ≡ true → b ≡ false → ⊥
+pub not_both : (b : Bool) → b ≡ true → b ≡ false → ⊥
 not_both true e f = cc
 not_both false e f = cc
 
-apart_turned : (a b : List ℕ) → bytes_eq a b ≡ false → bytes_eq b a ≡ false
+pub apart_turned : (a b : List ℕ) → bytes_eq a b ≡ false → bytes_eq b a ≡ false
 apart_turned a b apart = elim (cases_Bool (bytes_eq b a)) [
   | inl same ↦ absurd (not_both (bytes_eq a b) ((bytes_eq-Decides a b).1 (sym (same_key b a same))) apart)
   | inr turned ↦ turned
@@ -29,11 +29,6 @@ apart_from key other third same also apart = not_both (bytes_eq key other) ((byt
 abbrev Has : {V : Type 0} → Table V → List ℕ → Type 0
 Has [] key = ⊥
 Has (x ∷ xs) key = (bytes_eq key x.0 ≡ true) ⊎ Has xs key
-
--- the key isn't in the table
-abbrev IsFree : {V : Type 0} → Table V → List ℕ → Type 0
-IsFree [] key = Unit {0}
-IsFree (x ∷ xs) key = (bytes_eq key x.0 ≡ false) × IsFree xs key
 
 -- no key is in the table twice
 abbrev IsOrderly : {V : Type 0} → Table V → Type 0

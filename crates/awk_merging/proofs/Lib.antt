@@ -1,2 +1,4 @@
+pub mod Cells
+pub mod Decimals
 pub mod Gathering
 pub mod Ways

@@ -1,6 +1,7 @@
-// Laws of what is gathered by key.
+// Laws of what is gathered by key, and of the cells that are printed of it.
 
 ghost use Rattle.awk_merging.specs.definitions.Gathering.{LawOfGathering, LawOfWays};
+ghost use Rattle.awk_merging.specs.definitions.LawOfCells.{LawOfCells};
 
 /// What a table gathers of updates is the table, with replayed on it what they gather by themselves; and
 /// what the parts of a whole gather, replayed in turn, is what the whole gathers.
@@ -13,4 +14,10 @@ pub fn law_of_gathering<V, U>()
 /// be replayed.
 pub fn law_of_ways<V>()
     ensures { LawOfWays V }
+{}
+
+/// The statements that print the sums of a program print their cells, in the order of the keys.
+#[tactic(auto, using(crate::proofs::Cells::law_of_cells))]
+pub fn law_of_cells()
+    ensures { LawOfCells }
 {}

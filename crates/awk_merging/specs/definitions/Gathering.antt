@@ -1,5 +1,5 @@
 -- What is gathered by key, in the order in which the keys were made, and what becomes of it where it is gathered in parts.
-use Rattle.std.specs.Prelude.{◌≡◌, ℕ, ℤ, ◌+ℤ◌, if◌then◌else◌, List, [], ◌∷◌, ◌++◌, bytes_eq, int_lt}
+use Rattle.std.specs.Prelude.{◌≡◌, ℕ, ℤ, ◌+ℤ◌, false, if◌then◌else◌, List, [], ◌∷◌, ◌++◌, bytes_eq, int_lt}
 
 -- a way to gather: what a first update makes, what an update makes of what is there, and the update that stands for all
 -- that made a value
@@ -20,6 +20,11 @@ pub record IsReplayable {V U : Type 0} (way : Way V U) : Type 0 where
 -- values by key, in the order in which the keys were made
 abbrev pub Table : Type 0 → Type 0
 Table V = List (List ℕ × V)
+
+-- the key isn't in the table
+abbrev pub IsFree : {V : Type 0} → Table V → List ℕ → Type 0
+IsFree [] key = Unit {0}
+IsFree (x ∷ xs) key = (bytes_eq key x.0 ≡ false) × IsFree xs key
 
 -- updates, each at a key
 abbrev pub Updates : Type 0 → Type 0
