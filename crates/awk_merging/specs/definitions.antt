@@ -1,3 +1,4 @@
 pub mod Gathering
 pub mod Sums
 pub mod LawOfCells
+pub mod LawOfReading

@@ -2,6 +2,7 @@
 
 ghost use Rattle.awk_merging.specs.definitions.Gathering.{LawOfGathering, LawOfWays};
 ghost use Rattle.awk_merging.specs.definitions.LawOfCells.{LawOfCells};
+ghost use Rattle.awk_merging.specs.definitions.LawOfReading.{LawOfReading};
 
 /// What a table gathers of updates is the table, with replayed on it what they gather by themselves; and
 /// what the parts of a whole gather, replayed in turn, is what the whole gathers.
@@ -20,4 +21,10 @@ pub fn law_of_ways<V>()
 #[tactic(auto, using(crate::proofs::Cells::law_of_cells))]
 pub fn law_of_cells()
     ensures { LawOfCells }
+{}
+
+/// The rules that read cells keep the first two lines of each, and add the third to the sum that these name.
+#[tactic(auto, using(crate::proofs::Reading::law_of_reading))]
+pub fn law_of_reading()
+    ensures { LawOfReading }
 {}

@@ -3,4 +3,4 @@
 
 mod laws;
 
-pub use laws::{law_of_cells, law_of_gathering, law_of_ways};
+pub use laws::{law_of_cells, law_of_gathering, law_of_reading, law_of_ways};
