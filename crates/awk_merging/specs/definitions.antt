@@ -2,3 +2,6 @@ pub mod Gathering
 pub mod Sums
 pub mod LawOfCells
 pub mod LawOfReading
+pub mod Mergeable
+pub mod Derived
+pub mod LawOfDerived

@@ -2,6 +2,7 @@
 
 ghost use Rattle.awk_merging.specs.definitions.Gathering.{LawOfGathering, LawOfWays};
 ghost use Rattle.awk_merging.specs.definitions.LawOfCells.{LawOfCells};
+ghost use Rattle.awk_merging.specs.definitions.LawOfDerived.{LawOfDerived};
 ghost use Rattle.awk_merging.specs.definitions.LawOfReading.{LawOfReading};
 
 /// What a table gathers of updates is the table, with replayed on it what they gather by themselves; and
@@ -27,4 +28,11 @@ pub fn law_of_cells()
 #[tactic(auto, using(crate::proofs::Reading::law_of_reading))]
 pub fn law_of_reading()
     ensures { LawOfReading }
+{}
+
+/// The parts of the two programs that are derived of one that sums up do what its own parts do, print its sums, and read
+/// them.
+#[tactic(auto, using(crate::proofs::DerivedParts::law_of_derived))]
+pub fn law_of_derived()
+    ensures { LawOfDerived }
 {}

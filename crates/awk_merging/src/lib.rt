@@ -1,6 +1,7 @@
-//! What is gathered of an input in parts, and the laws by which it is what is gathered of the whole.
+//! What is gathered of an input in parts, and the laws by which it is what is gathered of the whole; which programs sum up
+//! so, and the two programs that are derived of one: for each part, and for what these print.
 #![tactic(auto)]
 
 mod laws;
 
-pub use laws::{law_of_cells, law_of_gathering, law_of_reading, law_of_ways};
+pub use laws::{law_of_cells, law_of_derived, law_of_gathering, law_of_reading, law_of_ways};

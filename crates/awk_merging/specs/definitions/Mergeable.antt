@@ -1,0 +1,221 @@
+-- Programs that sum up what their records give, and print it behind them: those that are to run on pieces of an input, and whose
+-- sums are then added.
+use Rattle.std.specs.Prelude.{◌≡◌, ℕ, Bool, true, false, not, ◌&&◌, ◌||◌, if◌then◌else◌, List, [], ◌∷◌, ◌++◌, codes, bytes_eq}
+use Rattle.awk_lex.specs.declared.token.AssignmentOperator.{AssignmentOperator}
+use Rattle.awk_lex.specs.declared.token.AssignmentOperator.TheVariants as assignment
+use Rattle.awk_lex.specs.declared.token.BuiltIn.{BuiltIn as BuiltInName}
+use Rattle.awk_lex.specs.declared.token.BuiltIn.TheVariants as builtin
+use Rattle.awk_lex.specs.declared.token.IncrementOperator.{IncrementOperator}
+use Rattle.awk_lex.specs.declared.token.IncrementOperator.TheVariants as increment
+use Rattle.awk_grammar.specs.Tree.{Expr, Number, String, Name, Element, Group, BuiltIn, PreIncrement, PostIncrement, Unary, Binary, Membership, ListMembership, Conditional, Assign, Exprs, Nil, Cons, PrintList, Bare, Parenthesized, Output, Standard, Redirected, SimpleStatement, Expression, Print, Next, Statement, Empty, Simple, Block, If, IfElse, ForIn, Statements, NoMore, Then, Item, Begin, End, Action, PatternAction}
+use Rattle.awk_pieces.specs.definitions.Pieceable.{tells_apart, keeps_to_record, all_keep_to_record, all_only_set, pattern_keeps_to_record}
+use Rattle.awk_merging.specs.definitions.Sums.{Sum, ByKey, Alone, name_of_sum, merge_what, merge_key, is_taken}
+
+-- Which sums a program has.
+
+-- `+=`, and `++`
+abbrev pub is_plus : AssignmentOperator → Bool
+is_plus assignment.Add = true
+is_plus operator = false
+
+abbrev pub is_plus_one : IncrementOperator → Bool
+is_plus_one increment.Increment = true
+is_plus_one increment.Decrement = false
+
+-- the sum of a place: an element or a variable that isn't awk's own
+abbrev pub sum_of_place : (place : Expr) → List Sum
+sum_of_place (Element a es) = if is_taken a then [] else ByKey a ∷ []
+sum_of_place (Name x) = if is_taken x then [] else Alone x ∷ []
+sum_of_place e = []
+
+-- the sum that an expression adds to, where it does
+abbrev pub sum_added_to : Expr → List Sum
+sum_added_to (Assign operator place e) = if is_plus operator then sum_of_place place else []
+sum_added_to (PreIncrement operator place) = if is_plus_one operator then sum_of_place place else []
+sum_added_to (PostIncrement operator place) = if is_plus_one operator then sum_of_place place else []
+sum_added_to e = []
+
+abbrev pub sum_in_simple : SimpleStatement → List Sum
+sum_in_simple (Expression e) = sum_added_to e
+sum_in_simple simple = []
+
+abbrev mutual
+  pub sums_in : Statement → List Sum
+  sums_in (Simple simple) = sum_in_simple simple
+  sums_in (Block all) = sums_in_all all
+  sums_in (If c s) = sums_in s
+  sums_in (IfElse c s other) = sums_in s ++ sums_in other
+  sums_in s = []
+
+  pub sums_in_all : Statements → List Sum
+  sums_in_all NoMore = []
+  sums_in_all (Then s all) = sums_in s ++ sums_in_all all
+
+abbrev pub sums_in_item : Item → List Sum
+sums_in_item (Action block) = sums_in_all block
+sums_in_item (PatternAction p block) = sums_in_all block
+sums_in_item x = []
+
+abbrev pub sums_in_items : List Item → List Sum
+sums_in_items [] = []
+sums_in_items (x ∷ xs) = sums_in_item x ++ sums_in_items xs
+
+-- the sums of other names
+abbrev pub without_name : List ℕ → List Sum → List Sum
+without_name name [] = []
+without_name name (x ∷ xs) = if bytes_eq name (name_of_sum x) then without_name name xs else x ∷ without_name name xs
+
+-- each once, in the order of the text
+abbrev pub each_once : List Sum → List Sum
+each_once [] = []
+each_once (x ∷ xs) = x ∷ without_name (name_of_sum x) (each_once xs)
+
+abbrev pub sums_of_program : List Item → List Sum
+sums_of_program items = each_once (sums_in_items items)
+
+-- What its items may do, where these are the sums.
+
+abbrev pub is_sum : List Sum → List ℕ → Bool
+is_sum [] x = false
+is_sum (y ∷ ys) x = bytes_eq (name_of_sum y) x || is_sum ys x
+
+abbrev pub is_array_sum : List Sum → List ℕ → Bool
+is_array_sum [] x = false
+is_array_sum (ByKey a ∷ ys) x = bytes_eq a x || is_array_sum ys x
+is_array_sum (Alone y ∷ ys) x = is_array_sum ys x
+
+-- a variable of the derived programs
+abbrev pub is_derived : List ℕ → Bool
+is_derived x = bytes_eq x merge_what || bytes_eq x merge_key
+
+-- END reads sums and what BEGIN set, and not the last record
+abbrev pub is_shown : List ℕ → Bool
+is_shown x = not (tells_apart x || (is_derived x || bytes_eq x (codes "NF")))
+
+-- the built-in functions that make a value of values; without an argument `length` is that of the record
+abbrev pub is_of_values : BuiltInName → Exprs → Bool
+is_of_values builtin.Length Nil = false
+is_of_values builtin.Length (Cons e es) = true
+is_of_values builtin.Substr es = true
+is_of_values builtin.Index es = true
+is_of_values builtin.Sprintf es = true
+is_of_values builtin.ToLower es = true
+is_of_values builtin.ToUpper es = true
+is_of_values builtin.Int es = true
+is_of_values f es = false
+
+abbrev pub is_standard : Output → Bool
+is_standard Standard = true
+is_standard (Redirected way target) = false
+
+module _ (sums : List Sum) where
+  -- a rule reads no sum, and nothing that tells pieces apart
+  abbrev pub knows : List ℕ → Bool
+  knows x = not (tells_apart x || (is_derived x || is_sum sums x))
+
+  -- an addition to a sum of what the record gives
+  abbrev pub is_sum_place : (place : Expr) → Bool
+  is_sum_place (Element a es) = not (is_taken a) && all_keep_to_record knows es
+  is_sum_place (Name x) = not (is_taken x)
+  is_sum_place e = false
+
+  abbrev pub is_addition : Expr → Bool
+  is_addition (Assign operator place e) = is_plus operator && (is_sum_place place && keeps_to_record knows e)
+  is_addition (PreIncrement operator place) = is_plus_one operator && is_sum_place place
+  is_addition (PostIncrement operator place) = is_plus_one operator && is_sum_place place
+  is_addition e = false
+
+  abbrev pub is_simple_summing : SimpleStatement → Bool
+  is_simple_summing (Expression e) = is_addition e || keeps_to_record knows e
+  is_simple_summing Next = true
+  is_simple_summing simple = false
+
+  -- a statement of a rule: it adds to sums, changes the record, and prints nothing
+  abbrev mutual
+    pub only_sums : Statement → Bool
+    only_sums Empty = true
+    only_sums (Simple simple) = is_simple_summing simple
+    only_sums (Block all) = all_only_sum all
+    only_sums (If c s) = keeps_to_record knows c && only_sums s
+    only_sums (IfElse c s other) = keeps_to_record knows c && (only_sums s && only_sums other)
+    only_sums s = false
+
+    pub all_only_sum : Statements → Bool
+    all_only_sum NoMore = true
+    all_only_sum (Then s all) = only_sums s && all_only_sum all
+
+  -- BEGIN sets variables, and none of them is a sum
+  abbrev pub sets_no_sum : Expr → Bool
+  sets_no_sum (Assign operator (Name x) e) = knows x
+  sets_no_sum e = false
+
+  abbrev pub only_sets_others : Statement → Bool
+  only_sets_others Empty = true
+  only_sets_others (Simple (Expression e)) = sets_no_sum e
+  only_sets_others s = false
+
+  abbrev pub all_only_set_others : Statements → Bool
+  all_only_set_others NoMore = true
+  all_only_set_others (Then s all) = only_sets_others s && all_only_set_others all
+
+  abbrev mutual
+    pub reads_sums : Expr → Bool
+    reads_sums (Number n) = true
+    reads_sums (String bytes) = true
+    reads_sums (Name x) = is_shown x
+    reads_sums (Element a es) = is_array_sum sums a && all_read_sums es
+    reads_sums (Group e) = reads_sums e
+    reads_sums (Unary o e) = reads_sums e
+    reads_sums (Binary o a b) = reads_sums a && reads_sums b
+    reads_sums (Conditional c a b) = reads_sums c && (reads_sums a && reads_sums b)
+    reads_sums (BuiltIn f es) = is_of_values f es && all_read_sums es
+    reads_sums (Membership e a) = is_array_sum sums a && reads_sums e
+    reads_sums (ListMembership es a) = is_array_sum sums a && all_read_sums es
+    reads_sums e = false
+
+    pub all_read_sums : Exprs → Bool
+    all_read_sums Nil = true
+    all_read_sums (Cons e es) = reads_sums e && all_read_sums es
+
+  -- a print of a list: without one the record is printed
+  abbrev pub are_printed : Exprs → Bool
+  are_printed Nil = false
+  are_printed (Cons e es) = reads_sums e && all_read_sums es
+
+  abbrev pub is_printed : PrintList → Bool
+  is_printed (Bare es) = are_printed es
+  is_printed (Parenthesized es) = are_printed es
+
+  abbrev pub is_simple_print : SimpleStatement → Bool
+  is_simple_print (Print form list output) = is_printed list && is_standard output
+  is_simple_print simple = false
+
+  -- a statement of END: it prints to standard output, by conditions, and for the keys of sums
+  abbrev mutual
+    pub only_prints : Statement → Bool
+    only_prints Empty = true
+    only_prints (Simple simple) = is_simple_print simple
+    only_prints (Block all) = all_only_print all
+    only_prints (If c s) = reads_sums c && only_prints s
+    only_prints (IfElse c s other) = reads_sums c && (only_prints s && only_prints other)
+    only_prints (ForIn x a s) = not (is_taken x || is_sum sums x) && (is_array_sum sums a && only_prints s)
+    only_prints s = false
+
+    pub all_only_print : Statements → Bool
+    all_only_print NoMore = true
+    all_only_print (Then s all) = only_prints s && all_only_print all
+
+  abbrev pub is_mergeable_item : Item → Bool
+  is_mergeable_item (Begin block) = all_only_set block && all_only_set_others block
+  is_mergeable_item (Action block) = all_only_sum block
+  is_mergeable_item (PatternAction p block) = pattern_keeps_to_record knows p && all_only_sum block
+  is_mergeable_item (End block) = all_only_print block
+  is_mergeable_item x = false
+
+  abbrev pub are_mergeable : List Item → Bool
+  are_mergeable [] = true
+  are_mergeable (x ∷ xs) = is_mergeable_item x && are_mergeable xs
+
+-- a program whose sums can be gathered from pieces of its input
+abbrev pub IsMergeable : List Item → Type 0
+IsMergeable items = are_mergeable (sums_of_program items) items ≡ true
