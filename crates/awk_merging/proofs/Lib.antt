@@ -1,7 +1,9 @@
+pub mod CellLines
 pub mod Cells
 pub mod Decimals
 pub mod DerivedParts
 pub mod Gathering
 pub mod Reading
+pub mod States
 pub mod SumArrays
 pub mod Ways

@@ -4,6 +4,7 @@ ghost use Rattle.awk_merging.specs.definitions.Gathering.{LawOfGathering, LawOfW
 ghost use Rattle.awk_merging.specs.definitions.LawOfCells.{LawOfCells};
 ghost use Rattle.awk_merging.specs.definitions.LawOfDerived.{LawOfDerived};
 ghost use Rattle.awk_merging.specs.definitions.LawOfReading.{LawOfReading};
+ghost use Rattle.awk_merging.specs.definitions.LawOfStates.{LawOfStates};
 
 /// What a table gathers of updates is the table, with replayed on it what they gather by themselves; and
 /// what the parts of a whole gather, replayed in turn, is what the whole gathers.
@@ -35,4 +36,10 @@ pub fn law_of_reading()
 #[tactic(auto, using(crate::proofs::DerivedParts::law_of_derived))]
 pub fn law_of_derived()
     ensures { LawOfDerived }
+{}
+
+/// Where an input begins with the text of cells, the rules that read cells add each to its sum, in turn.
+#[tactic(auto, using(crate::proofs::States::law_of_states))]
+pub fn law_of_states()
+    ensures { LawOfStates }
 {}
