@@ -6,4 +6,5 @@ pub mod Gathering
 pub mod Reading
 pub mod States
 pub mod SumArrays
+pub mod SumsMerged
 pub mod Ways

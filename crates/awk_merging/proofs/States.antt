@@ -40,7 +40,7 @@ holds_one s x (y ∷ ys) tables (inr later) holds = holds_one s x ys tables late
 other_cell : (tables : Tables) (x : Cell) (y : Sum) → bytes_eq (name_of_sum x.sum) (name_of_sum y) ≡ false → with_cell tables x (name_of_sum y) ≡ tables (name_of_sum y)
 other_cell tables x y apart = cond-false _ _ _ apart
 
-own_cell : (tables : Tables) (x : Cell) → with_cell tables x (name_of_sum x.sum) ≡ updated sums (tables (name_of_sum x.sum)) (key_for x.sum x.key) x.number
+pub own_cell : (tables : Tables) (x : Cell) → with_cell tables x (name_of_sum x.sum) ≡ updated sums (tables (name_of_sum x.sum)) (key_for x.sum x.key) x.number
 own_cell tables x = cond-true _ _ _ (own_key (name_of_sum x.sum))
 
 module _ (s t : State) (x : Cell) (tables : Tables) (own : Holds t x.sum (updated sums (tables (name_of_sum x.sum)) (key_for x.sum x.key) x.number))

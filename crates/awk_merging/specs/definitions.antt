@@ -3,6 +3,7 @@ pub mod Sums
 pub mod LawOfCells
 pub mod LawOfReading
 pub mod LawOfStates
+pub mod LawOfSums
 pub mod Mergeable
 pub mod Derived
 pub mod LawOfDerived

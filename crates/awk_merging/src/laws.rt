@@ -5,6 +5,7 @@ ghost use Rattle.awk_merging.specs.definitions.LawOfCells.{LawOfCells};
 ghost use Rattle.awk_merging.specs.definitions.LawOfDerived.{LawOfDerived};
 ghost use Rattle.awk_merging.specs.definitions.LawOfReading.{LawOfReading};
 ghost use Rattle.awk_merging.specs.definitions.LawOfStates.{LawOfStates};
+ghost use Rattle.awk_merging.specs.definitions.LawOfSums.{LawOfSums};
 
 /// What a table gathers of updates is the table, with replayed on it what they gather by themselves; and
 /// what the parts of a whole gather, replayed in turn, is what the whole gathers.
@@ -31,15 +32,21 @@ pub fn law_of_reading()
     ensures { LawOfReading }
 {}
 
+/// Where an input begins with the text of cells, the rules that read cells add each to its sum, in turn.
+#[tactic(auto, using(crate::proofs::States::law_of_states))]
+pub fn law_of_states()
+    ensures { LawOfStates }
+{}
+
+/// Behind what pieces print of their sums, each sum is what all updates of the pieces gather.
+#[tactic(auto, using(crate::proofs::SumsMerged::law_of_sums))]
+pub fn law_of_sums()
+    ensures { LawOfSums }
+{}
+
 /// The parts of the two programs that are derived of one that sums up do what its own parts do, print its sums, and read
 /// them.
 #[tactic(auto, using(crate::proofs::DerivedParts::law_of_derived))]
 pub fn law_of_derived()
     ensures { LawOfDerived }
-{}
-
-/// Where an input begins with the text of cells, the rules that read cells add each to its sum, in turn.
-#[tactic(auto, using(crate::proofs::States::law_of_states))]
-pub fn law_of_states()
-    ensures { LawOfStates }
 {}
