@@ -4,6 +4,7 @@ pub mod Decimals
 pub mod DerivedParts
 pub mod Gathering
 pub mod Reading
+pub mod SecondRun
 pub mod States
 pub mod SumArrays
 pub mod SumsMerged

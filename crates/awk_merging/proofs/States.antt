@@ -1,7 +1,7 @@
 -- What the rules that read sums come to on the cells of a text.
 use Rattle.std.proofs.Common.{◌≡◌, inl, inr, ℕ, suc, ◌+◌, ◌*◌, ◌<◌, ◌^◌, ℤ, ◌+ℤ◌, pos, true, false, List, [], ◌∷◌, ◌++◌, length, Some, refl, sym, ap, ◌∙◌, subst, codes, bytes_eq, append_assoc, arith}
 use Rattle.std.specs.Fmt.{signed_decimal}
-use Rattle.std.proofs.lemmas.Bool.{cond-true, cond-false}
+use Rattle.std.proofs.lemmas.Bool.{cases_Bool, cond-true, cond-false}
 use Rattle.awk_value.specs.declared.value.Value.{Value}
 use Rattle.awk_value.specs.declared.value.Value.TheVariants as value
 use Rattle.awk_value.specs.Arithmetic.{is_in_range}
@@ -20,13 +20,13 @@ use Rattle.awk_pieces.proofs.RecordsFound.{Counts, counted, rule_for, record_fou
 use Rattle.awk_merging.specs.definitions.Gathering.{Table, updated, sums}
 use Rattle.awk_merging.specs.definitions.Sums.{Sum, ByKey, Alone, name_of_sum, merge_what, merge_key, reading_rules, is_taken, Holds, cell_text}
 use Rattle.awk_merging.specs.definitions.LawOfReading.{IsLineOf, IsUnnamed, IsAmong, key_for, number_at, Adds}
-use Rattle.awk_merging.specs.definitions.LawOfStates.{Cell, Cells, text_of_cells, Tables, with_cell, behind_cells, HoldsAll, IsRecord, AreAdded, state_reading, HasRead, AreRequests, ReadsOn, turns_of, steps_of, LawOfStates}
-use Rattle.awk_merging.proofs.Gathering.{own_key, apart_turned}
+use Rattle.awk_merging.specs.definitions.LawOfStates.{Cell, Cells, text_of_cells, Tables, with_cell, behind_cells, HoldsAll, IsRecord, AreAdded, state_reading, HasRead, AreRequests, is_counted, ReadsOn, turns_of, steps_of, LawOfStates}
+use Rattle.awk_merging.proofs.Gathering.{same_key, own_key, not_both, apart_turned}
 use Rattle.awk_merging.proofs.Cells.{apart_from_taken}
 use Rattle.awk_merging.proofs.CellLines.{line_cut, number_record, first_line, second_line, third_line}
 use Rattle.awk_merging.proofs.Reading.{law_of_reading}
 
-abbrev Values : Type 0
+abbrev pub Values : Type 0
 Values = List ℕ → Value
 
 -- what is held, by one sum and by all
@@ -66,6 +66,19 @@ module _ (s t : State) (x : Cell) (tables : Tables) (own : Holds t x.sum (update
     all_hold ys later.1 holds.2,
   )
 
+-- a name that no sum has is another than each one's
+unnamed_among : (z : List ℕ) (x : Sum) (ys : List Sum) → IsUnnamed z ys → IsAmong x ys → bytes_eq z (name_of_sum x) ≡ false
+unnamed_among z x [] unnamed among = absurd among
+unnamed_among z x (y ∷ ys) unnamed (inl is) = subst (λ (w : Sum). bytes_eq z (name_of_sum w) ≡ false) (sym is.0) unnamed.0
+unnamed_among z x (y ∷ ys) unnamed (inr later) = unnamed_among z x ys unnamed.1 later.1
+
+-- a variable that isn't counted is none of these
+pub uncounted : (z name : List ℕ) → is_counted z ≡ false → is_counted name ≡ true → bytes_eq name z ≡ false
+uncounted z name not is = elim (cases_Bool (bytes_eq name z)) [
+  | inl same ↦ absurd (not_both (is_counted z) (ap is_counted (sym (same_key name z same)) ∙ is) not)
+  | inr other ↦ other
+]
+
 -- where no variable of a sum changes, all are held
 kept_holds : (base : State) (left left' : List ℕ) (c c' : RecordPair) (arrays : List Array) (v w : Values) (k l : ℕ) → ((z : List ℕ) → is_taken z ≡ false → w z ≡ v z) → (ys : List Sum) (tables : Tables) →
     HoldsAll (state_reading base left c arrays v k) ys tables → HoldsAll (state_reading base left' c' arrays w l) ys tables
@@ -73,6 +86,11 @@ kept_holds base left left' c c' arrays v w k l keeps [] tables holds = tt
 kept_holds base left left' c c' arrays v w k l keeps (ByKey a ∷ ys) tables holds = (holds.0, holds.1, kept_holds base left left' c c' arrays v w k l keeps ys tables holds.2)
 kept_holds base left left' c c' arrays v w k l keeps (Alone y ∷ ys) tables holds =
     (holds.0, (holds.1.0, keeps y holds.0 ∙ holds.1.1, holds.1.2), kept_holds base left left' c c' arrays v w k l keeps ys tables holds.2)
+
+pub requests_append : (es fs : List Effect) → AreRequests es → AreRequests fs → AreRequests (es ++ fs)
+requests_append [] fs a b = b
+requests_append (Printed n bytes ∷ es) fs a b = absurd a
+requests_append (Requested what ∷ es) fs a b = requests_append es fs a b
 
 module _ (functions : Functions) (m : ℕ) (xs : List Sum) (base : State) where
   abbrev rules : Run (Unit {0})
@@ -211,16 +229,13 @@ module _ (functions : Functions) (m : ℕ) (xs : List Sum) (base : State) where
         fnr = stays (codes "FNR") refl ∙ ap (λ (n : ℕ). value.Number (pos n)) three_more;
       };
       holds = all_hold (at more c3 arrays v3 k) (at more c3 third_adds.arrays_then third_adds.values k) x tables third_adds.adds third_adds.others xs among all_held;
-      keeps = λ z taken what key nr fnr. stays z taken ∙ others_are z what key nr fnr;
+      keeps = λ z unnamed not.
+          third_adds.keeps z (apart_turned z name (unnamed_among z x.sum xs unnamed among))
+          ∙ others_are z (uncounted z merge_what not refl) (uncounted z merge_key not refl) (uncounted z (codes "NR") not refl) (uncounted z (codes "FNR") not refl);
       is = lines_read;
     }
 
   -- cells, one after the other
-
-  requests_append : (es fs : List Effect) → AreRequests es → AreRequests fs → AreRequests (es ++ fs)
-  requests_append [] fs a b = b
-  requests_append (Printed n bytes ∷ es) fs a b = absurd a
-  requests_append (Requested what ∷ es) fs a b = requests_append es fs a b
 
   reads_then : (tables tables' : Tables) (between more : List ℕ) (v : Values) (count count' turns turns' k k' : ℕ) (out : Out (Unit {0})) → (first : ReadsOn base action xs tables between v count turns k out) →
       ReadsOn base action xs tables' more first.values count' turns' k' (each_record turns action (at between first.current first.arrays first.values k)) → ReadsOn base action xs tables' more v count' turns' k' out
@@ -232,7 +247,7 @@ module _ (functions : Functions) (m : ℕ) (xs : List Sum) (base : State) where
     requests = requests_append first.effects rest.effects first.requests rest.requests;
     read = rest.read;
     holds = rest.holds;
-    keeps = λ z taken what key nr fnr. rest.keeps z taken what key nr fnr ∙ first.keeps z taken what key nr fnr;
+    keeps = λ z unnamed not. rest.keeps z unnamed not ∙ first.keeps z unnamed not;
     is =
         let left = each_record turns' action (at more rest.current rest.arrays rest.values k') in
         first.is ∙ (ap (behind first.effects) rest.is ∙ ap (λ (l : List Effect). record { result = left.result; state = left.state; effects = l }) (sym (append_assoc first.effects rest.effects left.effects)));
@@ -247,7 +262,7 @@ module _ (functions : Functions) (m : ℕ) (xs : List Sum) (base : State) where
       HoldsAll (at (text_of_cells cells ++ more) c arrays v (steps_of cells k)) xs tables → ReadsOn base action xs (behind_cells tables cells) more v (count + length cells) turns k (each_record (turns_of cells turns) action (at (text_of_cells cells ++ more) c arrays v (steps_of cells k)))
   cells_read [] tables added more c arrays v count turns k fits read holds =
       let same : count ≡ count + 0 = omega arith in
-      record { current = c; arrays = arrays; values = v; effects = []; requests = tt; read = subst (λ (n : ℕ). HasRead v n) same read; holds = holds; keeps = λ z taken what key nr fnr. refl; is = refl }
+      record { current = c; arrays = arrays; values = v; effects = []; requests = tt; read = subst (λ (n : ℕ). HasRead v n) same read; holds = holds; keeps = λ z unnamed not. refl; is = refl }
   cells_read (x ∷ cells) tables added more c arrays v count turns k fits read holds =
       let between : List ℕ = text_of_cells cells ++ more in
       let text : text_of_cells (x ∷ cells) ++ more ≡ name_of_sum x.sum ++ (10 ∷ (x.key ++ (10 ∷ (signed_decimal x.number ++ (10 ∷ between)))))

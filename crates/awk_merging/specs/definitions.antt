@@ -7,3 +7,4 @@ pub mod LawOfSums
 pub mod Mergeable
 pub mod Derived
 pub mod LawOfDerived
+pub mod LawOfAll

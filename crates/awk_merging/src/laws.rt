@@ -1,6 +1,7 @@
 // Laws of what is gathered by key, and of the cells that are printed of it.
 
 ghost use Rattle.awk_merging.specs.definitions.Gathering.{LawOfGathering, LawOfWays};
+ghost use Rattle.awk_merging.specs.definitions.LawOfAll.{LawOfAll};
 ghost use Rattle.awk_merging.specs.definitions.LawOfCells.{LawOfCells};
 ghost use Rattle.awk_merging.specs.definitions.LawOfDerived.{LawOfDerived};
 ghost use Rattle.awk_merging.specs.definitions.LawOfReading.{LawOfReading};
@@ -49,4 +50,10 @@ pub fn law_of_sums()
 #[tactic(auto, using(crate::proofs::DerivedParts::law_of_derived))]
 pub fn law_of_derived()
     ensures { LawOfDerived }
+{}
+
+/// On the text of cells the second of the derived programs does what the program's END does where all of them are summed up.
+#[tactic(auto, using(crate::proofs::SecondRun::law_of_all))]
+pub fn law_of_all()
+    ensures { LawOfAll }
 {}

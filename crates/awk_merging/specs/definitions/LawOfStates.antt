@@ -1,5 +1,5 @@
 -- What the rules that read sums come to on the cells of a text, one after the other.
-use Rattle.std.specs.Prelude.{◌≡◌, ◌<◌, ◌+◌, ◌*◌, ◌^◌, ℕ, ℤ, ◌+ℤ◌, pos, suc, true, false, List, [], ◌∷◌, ◌++◌, length, codes, bytes_eq, if◌then◌else◌, Some}
+use Rattle.std.specs.Prelude.{◌≡◌, ◌<◌, ◌+◌, ◌*◌, ◌^◌, ℕ, Bool, ℤ, ◌+ℤ◌, pos, suc, true, false, List, [], ◌∷◌, ◌++◌, length, codes, bytes_eq, if◌then◌else◌, Some}
 use Rattle.awk_value.specs.declared.value.Value.{Value}
 use Rattle.awk_value.specs.declared.value.Value.TheVariants as value
 use Rattle.awk_value.specs.Arithmetic.{is_in_range}
@@ -7,13 +7,14 @@ use Rattle.awk_value.specs.Arrays.{Array}
 use Rattle.awk_value.specs.Values.{str_of}
 use Rattle.awk_record.specs.definitions.Cut.{AtEnd, longest}
 use Rattle.awk_record.specs.Record.{RecordPair}
+use Rattle.awk_kinds.specs.Names.{has_name}
 use Rattle.awk_semantics.specs.definitions.State.{Effect, Printed, Requested, State, Out, Run}
 use Rattle.awk_semantics.specs.definitions.Semantics.{Functions}
 use Rattle.awk_semantics.specs.definitions.Items.{try_items, until_next, each_record}
 use Rattle.awk_merging.specs.definitions.Gathering.{Table, updated, sums}
 use Rattle.awk_merging.specs.definitions.Sums.{Sum, name_of_sum, merge_what, merge_key, reading_rules, is_taken, Holds, cell_text}
 use Rattle.awk_merging.specs.definitions.LawOfCells.{IsLine}
-use Rattle.awk_merging.specs.definitions.LawOfReading.{IsAmong, key_for, number_at}
+use Rattle.awk_merging.specs.definitions.LawOfReading.{IsUnnamed, IsAmong, key_for, number_at}
 
 -- a cell: a sum, a key and a number
 pub record Cell : Type 0 where
@@ -88,6 +89,10 @@ AreRequests [] = Unit {0}
 AreRequests (Printed n bytes ∷ effects) = ⊥
 AreRequests (Requested what ∷ effects) = AreRequests effects
 
+-- the variables that change with each cell
+abbrev pub is_counted : List ℕ → Bool
+is_counted z = has_name (merge_what ∷ merge_key ∷ codes "NR" ∷ codes "FNR" ∷ []) z
+
 -- what a run does is this, and then what is left of it, where the sums are these, and other variables as they were
 pub record ReadsOn (base : State) (action : Run (Unit {0})) (xs : List Sum) (tables : Tables) (more : List ℕ) (v : List ℕ → Value) (count turns k : ℕ) (out : Out (Unit {0})) : Type 0 where
   pub current : RecordPair
@@ -97,7 +102,7 @@ pub record ReadsOn (base : State) (action : Run (Unit {0})) (xs : List Sum) (tab
   pub requests : AreRequests effects
   pub read : HasRead values count
   pub holds : HoldsAll (state_reading base more current arrays values k) xs tables
-  pub keeps : (z : List ℕ) → is_taken z ≡ true → bytes_eq merge_what z ≡ false → bytes_eq merge_key z ≡ false → bytes_eq (codes "NR") z ≡ false → bytes_eq (codes "FNR") z ≡ false → values z ≡ v z
+  pub keeps : (z : List ℕ) → IsUnnamed z xs → is_counted z ≡ false → values z ≡ v z
   pub is : out ≡ record {
     result = (each_record turns action (state_reading base more current arrays values k)).result;
     state = (each_record turns action (state_reading base more current arrays values k)).state;
