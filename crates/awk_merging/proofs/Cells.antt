@@ -198,7 +198,7 @@ module _ (functions : Functions) (base : State) where
   held_still v w k l keeps [] are = tt
   held_still v w k l keeps (x ∷ xs) are = (are.0, holds_still v w k l keeps x.0 x.1 are.0 are.1, are.2, held_still v w k l keeps xs are.3)
 
-  sums_show : (held : Held) (v : List ℕ → Value) (k l : ℕ) → AreHeld (at v l) held → Shows base v k (all_cells held) (exec_all functions (print_sums (sums_of held)) (at v (steps_of_sums held k)))
+  pub sums_show : (held : Held) (v : List ℕ → Value) (k l : ℕ) → AreHeld (at v l) held → Shows base v k (all_cells held) (exec_all functions (print_sums (sums_of held)) (at v (steps_of_sums held k)))
   unfolding exec_all lift ◌>>=◌ go_on
   sums_show [] v k l are = record { values = v; keeps = λ z e. refl; is = refl }
   sums_show (x ∷ xs) v k l are =

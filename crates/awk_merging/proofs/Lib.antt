@@ -2,6 +2,7 @@ pub mod CellLines
 pub mod Cells
 pub mod Decimals
 pub mod DerivedParts
+pub mod FirstRun
 pub mod Gathering
 pub mod Reading
 pub mod SecondRun

@@ -7,4 +7,5 @@ pub mod LawOfSums
 pub mod Mergeable
 pub mod Derived
 pub mod LawOfDerived
+pub mod LawOfEach
 pub mod LawOfAll

@@ -4,6 +4,7 @@ ghost use Rattle.awk_merging.specs.definitions.Gathering.{LawOfGathering, LawOfW
 ghost use Rattle.awk_merging.specs.definitions.LawOfAll.{LawOfAll};
 ghost use Rattle.awk_merging.specs.definitions.LawOfCells.{LawOfCells};
 ghost use Rattle.awk_merging.specs.definitions.LawOfDerived.{LawOfDerived};
+ghost use Rattle.awk_merging.specs.definitions.LawOfEach.{LawOfEach};
 ghost use Rattle.awk_merging.specs.definitions.LawOfReading.{LawOfReading};
 ghost use Rattle.awk_merging.specs.definitions.LawOfStates.{LawOfStates};
 ghost use Rattle.awk_merging.specs.definitions.LawOfSums.{LawOfSums};
@@ -50,6 +51,13 @@ pub fn law_of_sums()
 #[tactic(auto, using(crate::proofs::DerivedParts::law_of_derived))]
 pub fn law_of_derived()
     ensures { LawOfDerived }
+{}
+
+/// On a piece of the input the first of the derived programs does what the program does before its END, and then it
+/// prints the sums.
+#[tactic(auto, using(crate::proofs::FirstRun::law_of_each))]
+pub fn law_of_each()
+    ensures { LawOfEach }
 {}
 
 /// On the text of cells the second of the derived programs does what the program's END does where all of them are summed up.
