@@ -1,3 +1,4 @@
+pub mod Additions
 pub mod CellLines
 pub mod Cells
 pub mod Decimals

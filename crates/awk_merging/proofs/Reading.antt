@@ -149,15 +149,15 @@ module _ (functions : Functions) (base : State) (c : RecordPair) (arrays : List 
     got : (array : Array) → unwrap_or (slice_get (slice_set arrays here array) here) [] ≡ array
     got array = unwrap_or-slice_get (slice_set arrays here array) here [] ∙ get_or-set_same arrays here array [] holds.1
 
-    element_read : (key : List ℕ) → read_element a key (at v k) ≡ gives (unwrap_or (value_at (numbers table) key) value.Nothing) (state_on base c (slice_set arrays here (with_key (numbers table) key)) v k)
+    pub element_read : (key : List ℕ) → read_element a key (at v k) ≡ gives (unwrap_or (value_at (numbers table) key) value.Nothing) (state_on base c (slice_set arrays here (with_key (numbers table) key)) v k)
     unfolding read_element read_element_at
     element_read key = rw holds.2 refl
 
-    element_stored : (array : Array) (key : List ℕ) (w : Value) → store_element a key w (state_on base c (slice_set arrays here array) v k) ≡ gives (tt {0}) (state_on base c (slice_set arrays here (with_pair array key w)) v k)
+    pub element_stored : (array : Array) (key : List ℕ) (w : Value) → store_element a key w (state_on base c (slice_set arrays here array) v k) ≡ gives (tt {0}) (state_on base c (slice_set arrays here (with_pair array key w)) v k)
     unfolding store_element store_element_at
     element_stored array key w = rw (got array, set-set arrays here array (with_pair array key w)) refl
 
-    stored_read : (array : Array) (key : List ℕ) → read_element a key (state_on base c (slice_set arrays here array) v k) ≡ gives (unwrap_or (value_at array key) value.Nothing) (state_on base c (slice_set arrays here (with_key array key)) v k)
+    pub stored_read : (array : Array) (key : List ℕ) → read_element a key (state_on base c (slice_set arrays here array) v k) ≡ gives (unwrap_or (value_at array key) value.Nothing) (state_on base c (slice_set arrays here (with_key array key)) v k)
     unfolding read_element read_element_at
     stored_read array key = rw (got array, set-set arrays here array (with_key array key)) refl
 
@@ -211,14 +211,14 @@ module _ (functions : Functions) (base : State) (c : RecordPair) (arrays : List 
     }
 
   module _ (x : List ℕ) (proper : is_taken x ≡ false) (v : List ℕ → Value) (k : ℕ) where
-    variable_read : (u : List ℕ → Value) → read_name x (at u k) ≡ gives (u x) (at u k)
+    pub variable_read : (u : List ℕ → Value) → read_name x (at u k) ≡ gives (u x) (at u k)
     unfolding read_name
     variable_read u = rw (apart_from_taken x (codes "NF") proper refl) refl
 
     not_refused : (s : Value) → is_refused x s ≡ false
     not_refused s = rw (apart_from_taken x (codes "FS") proper refl) refl
 
-    variable_put : (s : Value) → put x s (at v k) ≡ gives (tt {0}) (at (with_value v x s) k)
+    pub variable_put : (s : Value) → put x s (at v k) ≡ gives (tt {0}) (at (with_value v x s) k)
     unfolding put put_outside
     variable_put s = rw (apart_from_taken x (codes "NF") proper refl, not_refused s) refl
 

@@ -2,6 +2,7 @@ pub mod Gathering
 pub mod Sums
 pub mod LawOfCells
 pub mod LawOfReading
+pub mod LawOfAdditions
 pub mod LawOfStates
 pub mod LawOfSums
 pub mod Mergeable

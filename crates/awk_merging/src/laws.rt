@@ -1,6 +1,12 @@
 // Laws of what is gathered by key, and of the cells that are printed of it.
 
+ghost use Rattle.std.specs.Prelude.{ℕ, List};
+ghost use Rattle.awk_value.specs.Arrays.{Array};
+ghost use Rattle.awk_value.specs.declared.value.Value.{Value};
+ghost use Rattle.awk_semantics.specs.definitions.Semantics.{Functions};
+ghost use Rattle.awk_semantics.specs.definitions.State.{State};
 ghost use Rattle.awk_merging.specs.definitions.Gathering.{LawOfGathering, LawOfWays};
+ghost use Rattle.awk_merging.specs.definitions.LawOfAdditions.{LawOfAdditions};
 ghost use Rattle.awk_merging.specs.definitions.LawOfAll.{LawOfAll};
 ghost use Rattle.awk_merging.specs.definitions.LawOfCells.{LawOfCells};
 ghost use Rattle.awk_merging.specs.definitions.LawOfDerived.{LawOfDerived};
@@ -32,6 +38,13 @@ pub fn law_of_cells()
 #[tactic(auto, using(crate::proofs::Reading::law_of_reading))]
 pub fn law_of_reading()
     ensures { LawOfReading }
+{}
+
+/// An addition of a rule is an update of its sum.
+#[tactic(auto, using(crate::proofs::Additions::law_of_additions))]
+pub fn law_of_additions()
+    ensures { (functions : Functions) (base : State) (arrays : List Array) (v : List ℕ → Value) (k : ℕ) →
+        LawOfAdditions functions base arrays v k }
 {}
 
 /// Where an input begins with the text of cells, the rules that read cells add each to its sum, in turn.
