@@ -1,6 +1,7 @@
 pub mod Additions
 pub mod CellLines
 pub mod Cells
+pub mod ClassTried
 pub mod Decimals
 pub mod DerivedParts
 pub mod FirstRun

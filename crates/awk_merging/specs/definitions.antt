@@ -10,3 +10,4 @@ pub mod Derived
 pub mod LawOfDerived
 pub mod LawOfEach
 pub mod LawOfAll
+pub mod Examples

@@ -1,10 +1,11 @@
-// Laws of what is gathered by key, and of the cells that are printed of it.
+// Laws of what is gathered by key, and of the programs that are derived of one that sums up.
 
 ghost use Rattle.std.specs.Prelude.{ℕ, List};
 ghost use Rattle.awk_value.specs.Arrays.{Array};
 ghost use Rattle.awk_value.specs.declared.value.Value.{Value};
 ghost use Rattle.awk_semantics.specs.definitions.Semantics.{Functions};
 ghost use Rattle.awk_semantics.specs.definitions.State.{State};
+ghost use Rattle.awk_merging.specs.definitions.Examples.{ExamplesOfClass};
 ghost use Rattle.awk_merging.specs.definitions.Gathering.{LawOfGathering, LawOfWays};
 ghost use Rattle.awk_merging.specs.definitions.LawOfAdditions.{LawOfAdditions};
 ghost use Rattle.awk_merging.specs.definitions.LawOfAll.{LawOfAll};
@@ -77,4 +78,10 @@ pub fn law_of_each()
 #[tactic(auto, using(crate::proofs::SecondRun::law_of_all))]
 pub fn law_of_all()
     ensures { LawOfAll }
+{}
+
+/// A program that sums up is one, and one that reads a sum or its record's number in a rule, prints or sets a sum there, or
+/// reads a record in END, isn't.
+pub fn examples()
+    ensures { ExamplesOfClass }
 {}

@@ -1,0 +1,68 @@
+-- Which programs sum up, by examples: the definition of the class, tried.
+use Rattle.std.specs.Prelude.{◌≡◌, ℕ, pos, false, List, [], ◌∷◌, codes}
+use Rattle.awk_lex.specs.declared.token.AssignmentOperator.TheVariants as assignment
+use Rattle.awk_lex.specs.declared.token.IncrementOperator.TheVariants as increment
+use Rattle.awk_lex.specs.declared.token.Operator.TheVariants as operator
+use Rattle.awk_grammar.specs.declared.tree.BinaryOperator.TheVariants.{Infix}
+use Rattle.awk_grammar.specs.declared.tree.PrintForm.TheVariants as form
+use Rattle.awk_grammar.specs.Tree.{Expr, Number, Name, Element, Field, PostIncrement, Binary, Assign, Nil, Cons, Bare, Standard, Expression, Print, Statement, Simple, If, ForIn, Statements, NoMore, Then, Single, Item, End, Action, PatternAction}
+use Rattle.awk_merging.specs.definitions.Sums.{ByKey, Alone}
+use Rattle.awk_merging.specs.definitions.Mergeable.{sums_of_program, are_mergeable, IsMergeable}
+
+abbrev pub field : ℕ → Expr
+field n = Field (Number (pos n))
+
+abbrev pub one : Statement → Statements
+one s = Then s NoMore
+
+abbrev pub print : Expr → Statement
+print e = Simple (Print form.Print (Bare (Cons e Nil)) Standard)
+
+-- n[$1]++
+abbrev pub count : Statement
+count = Simple (Expression (PostIncrement increment.Increment (Element (codes "n") (Cons (field 1) Nil))))
+
+-- s += $2
+abbrev pub add : Statement
+add = Simple (Expression (Assign assignment.Add (Name (codes "s")) (field 2)))
+
+-- n[k]
+abbrev pub at_k : Expr
+at_k = Element (codes "n") (Cons (Name (codes "k")) Nil)
+
+-- END { for (k in n) print n[k]; print s }
+abbrev pub shows : Item
+shows = End (Then (ForIn (codes "k") (codes "n") (print at_k)) (one (print (Name (codes "s")))))
+
+-- $2 > 3 { n[$1]++; s += $2 } END { .. }
+abbrev pub counts : List Item
+counts = PatternAction (Single (Binary (Infix operator.Greater) (field 2) (Number (pos 3)))) (Then count (one add)) ∷ shows ∷ []
+
+-- { n[$1]++; if (n[$1] == 3) s += $2 } END { .. }: a rule reads a sum
+abbrev pub reads : List Item
+reads = Action (Then count (one (If (Binary (Infix operator.Equal) (Element (codes "n") (Cons (field 1) Nil)) (Number (pos 3))) add))) ∷ shows ∷ []
+
+-- { n[$1]++; s += NR } END { .. }: a rule reads where its record stands
+abbrev pub numbers_records : List Item
+numbers_records = Action (Then count (one (Simple (Expression (Assign assignment.Add (Name (codes "s")) (Name (codes "NR"))))))) ∷ shows ∷ []
+
+-- { n[$1]++; print $1 } END { .. }: a rule prints
+abbrev pub prints : List Item
+prints = Action (Then count (one (print (field 1)))) ∷ shows ∷ []
+
+-- { n[$1]++ } END { print $0 }: END reads a record
+abbrev pub ends_with_record : List Item
+ends_with_record = Action (one count) ∷ End (one (print (field 0))) ∷ []
+
+-- { n[$1]++; n[$1] = 1 } END { .. }: a rule sets a sum
+abbrev pub sets : List Item
+sets = Action (Then count (one (Simple (Expression (Assign assignment.Plain (Element (codes "n") (Cons (field 1) Nil)) (Number (pos 1))))))) ∷ shows ∷ []
+
+pub record ExamplesOfClass : Type 0 where
+  pub is_one : IsMergeable counts
+  pub has_sums : sums_of_program counts ≡ ByKey (codes "n") ∷ Alone (codes "s") ∷ []
+  pub not_reads : are_mergeable (sums_of_program reads) reads ≡ false
+  pub not_numbers : are_mergeable (sums_of_program numbers_records) numbers_records ≡ false
+  pub not_prints : are_mergeable (sums_of_program prints) prints ≡ false
+  pub not_record : are_mergeable (sums_of_program ends_with_record) ends_with_record ≡ false
+  pub not_sets : are_mergeable (sums_of_program sets) sets ≡ false
