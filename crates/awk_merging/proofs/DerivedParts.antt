@@ -7,8 +7,9 @@ use Rattle.awk_semantics.specs.definitions.Semantics.{Functions}
 use Rattle.awk_semantics.specs.definitions.Items.{selects, run_action, try_item, try_items, begin_item, begin_items, end_item, end_items}
 use Rattle.awk_pieces.proofs.ReadsAlike.{left_true, right_true}
 use Rattle.awk_merging.specs.definitions.Sums.{Sum, print_sums, read_sums, reading_rules}
-use Rattle.awk_merging.specs.definitions.Mergeable.{sums_of_program, is_mergeable_item, are_mergeable}
+use Rattle.awk_merging.specs.definitions.Mergeable.{sums_in_items, sums_of_program, is_mergeable_item, are_mergeable}
 use Rattle.awk_merging.specs.definitions.Derived.{without_ends, begins_of, ends_of}
+use Rattle.awk_merging.proofs.ProgramSums.{is_among, apart_once, is_proper, proper_once, proper_items}
 use Rattle.awk_merging.specs.definitions.LawOfDerived.{LawOfDerived}
 
 -- what goes on alike does alike
@@ -206,6 +207,8 @@ module _ (functions : Functions) where
 
 pub law_of_derived : LawOfDerived
 law_of_derived = record {
+  sums_apart = λ items x is. is_among x (sums_of_program items) (apart_once (sums_in_items items)) is;
+  sums_proper = λ items x is. is_proper x (sums_of_program items) (proper_once (sums_in_items items) (proper_items items)) is;
   each_begins = λ functions items s. each_begun functions (print_sums (sums_of_program items)) items s;
   each_tries = λ functions items mergeable m n s. each_tried functions m n (print_sums (sums_of_program items)) items s (all_single (sums_of_program items) items mergeable);
   each_ends = λ functions items s. each_ended functions (print_sums (sums_of_program items)) items s;

@@ -6,6 +6,7 @@ pub mod Decimals
 pub mod DerivedParts
 pub mod FirstRun
 pub mod Gathering
+pub mod ProgramSums
 pub mod Reading
 pub mod SecondRun
 pub mod States
