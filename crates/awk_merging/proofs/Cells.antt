@@ -1,8 +1,9 @@
 -- What is printed of the sums of a program.
-use Rattle.std.proofs.Common.{◌≡◌, inl, inr, ℕ, suc, ◌+◌, ◌<◌, ◌^◌, ℤ, pos, negsuc, true, false, List, [], ◌∷◌, ◌++◌, length, Option, Some, None, Ok, refl, sym, ap, ◌∙◌, subst, codes, bytes_eq, slice_set, append-nil, arith}
+use Rattle.std.proofs.Common.{◌≡◌, inl, inr, ℕ, suc, ◌+◌, ◌==◌, ◌<◌, ◌^◌, ℤ, pos, negsuc, true, false, List, [], ◌∷◌, ◌++◌, length, Option, Some, None, Ok, refl, sym, ap, ◌∙◌, subst, codes, bytes_eq, slice_set, append-nil, arith}
 use Rattle.std.specs.Fmt.{decimal, signed_decimal}
 use Rattle.std.proofs.Math.Nat.{zero-sub}
 use Rattle.std.proofs.lemmas.Bool.{cases_Bool, cond-true, cond-false}
+use Rattle.std.proofs.lemmas.Bool.Decides.{nat_tests}
 use Rattle.std.proofs.lemmas.Fmt.{decimal_is_IsNumeral_wide}
 use Rattle.std.proofs.lemmas.List.{set-get_or}
 use Rattle.std.proofs.lemmas.Option.{unwrap_or-slice_get}
@@ -19,12 +20,12 @@ use Rattle.awk_grammar.specs.declared.tree.BinaryOperator.TheVariants.{Infix}
 use Rattle.awk_grammar.specs.Tree.{Expr, String, Name, BuiltIn, Binary, Nil, Cons, Block, Statement, Then, NoMore}
 use Rattle.awk_semantics.specs.declared.flow.Flow.TheVariants as flow
 use Rattle.awk_semantics.specs.definitions.State.{Printed, State, go_on, ◌>>=◌, lift, gives}
-use Rattle.awk_semantics.specs.definitions.Primitives.{number_in, array_in, put, put_outside, spend, read_name, read_element, read_element_at, joined_key, keys_in, keys_at, print_bytes}
+use Rattle.awk_semantics.specs.definitions.Primitives.{set_status, number_in, array_in, put, put_outside, spend, read_name, read_element, read_element_at, joined_key, keys_in, keys_at, print_bytes}
 use Rattle.awk_semantics.specs.definitions.BuiltIns.{apply_built_in}
-use Rattle.awk_semantics.specs.definitions.Semantics.{Functions, eval, eval_all, key_of, take_arguments, tested, begin_test, exec, exec_all, exec_simple, print, printed_values, target_of, turn, walk}
+use Rattle.awk_semantics.specs.definitions.Semantics.{Functions, eval, eval_all, key_of, take_arguments, tested, begin_test, exit_with, exec, exec_all, exec_simple, print, printed_values, target_of, turn, walk}
 use Rattle.awk_merging.specs.definitions.Gathering.{Table, IsFree}
 use Rattle.awk_merging.specs.definitions.Sums.{Sum, ByKey, Alone, name_of_sum, merge_key, cell_format, print_cell, refuse_newline, at_merge_key, print_sum, print_sums, numbers, number_or_none, alone, is_taken, Holds, cell_text}
-use Rattle.awk_merging.specs.definitions.LawOfCells.{IsLine, IsOfLines, state_at, Held, sums_of, AreHeld, cells, all_cells, steps_of_cells, steps_of_sum, steps_of_sums, Shows, LawOfCells}
+use Rattle.awk_merging.specs.definitions.LawOfCells.{IsLine, IsOfLines, state_at, Held, sums_of, AreHeld, cells, all_cells, steps_of_cells, steps_of_sum, steps_of_sums, Shows, LawOfCells, LawOfNewlines}
 use Rattle.awk_merging.proofs.Gathering.{same_key, own_key, not_both, apart_turned}
 use Rattle.awk_merging.proofs.Decimals.{within}
 
@@ -208,3 +209,11 @@ module _ (functions : Functions) (base : State) where
 
 pub law_of_cells : LawOfCells
 law_of_cells functions base v held k are = sums_show functions base held v k k are
+
+-- a place is counted from 1
+some_place : (i : ℕ) → (suc i == 0) ≡ false
+some_place i = grind (arith, nat_tests)
+
+pub law_of_newlines : LawOfNewlines
+unfolding exec exec_simple exit_with begin_test tested spend set_status eval take_arguments apply_built_in read_name lift ◌>>=◌ go_on
+law_of_newlines functions base v k i key found = rw (found, some_place i) refl

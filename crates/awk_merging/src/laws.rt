@@ -9,7 +9,7 @@ ghost use Rattle.awk_merging.specs.definitions.Examples.{ExamplesOfClass};
 ghost use Rattle.awk_merging.specs.definitions.Gathering.{LawOfGathering, LawOfWays};
 ghost use Rattle.awk_merging.specs.definitions.LawOfAdditions.{LawOfAdditions};
 ghost use Rattle.awk_merging.specs.definitions.LawOfAll.{LawOfAll};
-ghost use Rattle.awk_merging.specs.definitions.LawOfCells.{LawOfCells};
+ghost use Rattle.awk_merging.specs.definitions.LawOfCells.{LawOfCells, LawOfNewlines};
 ghost use Rattle.awk_merging.specs.definitions.LawOfDerived.{LawOfDerived};
 ghost use Rattle.awk_merging.specs.definitions.LawOfEach.{LawOfEach};
 ghost use Rattle.awk_merging.specs.definitions.LawOfReading.{LawOfReading};
@@ -33,6 +33,12 @@ pub fn law_of_ways<V>()
 #[tactic(auto, using(crate::proofs::Cells::law_of_cells))]
 pub fn law_of_cells()
     ensures { LawOfCells }
+{}
+
+/// Where a key has a newline, it isn't printed, and the run ends with status 1.
+#[tactic(auto, using(crate::proofs::Cells::law_of_newlines))]
+pub fn law_of_newlines()
+    ensures { LawOfNewlines }
 {}
 
 /// The rules that read cells keep the first two lines of each, and add the third to the sum that these name.

@@ -1,14 +1,17 @@
 -- What is printed of the sums of a program.
-use Rattle.std.specs.Prelude.{◌≡◌, ℕ, ℤ, suc, true, false, List, [], ◌∷◌, ◌++◌, bytes_eq, None, Ok}
+use Rattle.std.specs.Prelude.{◌≡◌, ℕ, ℤ, suc, true, false, List, [], ◌∷◌, ◌++◌, bytes_eq, Some, None, Ok}
 use Rattle.awk_value.specs.declared.value.Value.{Value}
+use Rattle.awk_value.specs.declared.value.Value.TheVariants as value
 use Rattle.awk_value.specs.Arithmetic.{is_in_range}
 use Rattle.awk_record.specs.definitions.Cut.{first_at}
+use Rattle.awk_kinds.specs.Variables.{with_value}
+use Rattle.awk_semantics.specs.declared.halt.Halt.TheVariants as halt
 use Rattle.awk_semantics.specs.declared.flow.Flow.{Flow}
 use Rattle.awk_semantics.specs.declared.flow.Flow.TheVariants as flow
-use Rattle.awk_semantics.specs.definitions.State.{Effect, Printed, State, Out}
-use Rattle.awk_semantics.specs.definitions.Semantics.{Functions, exec_all}
+use Rattle.awk_semantics.specs.definitions.State.{Effect, Printed, State, Out, ends}
+use Rattle.awk_semantics.specs.definitions.Semantics.{Functions, exec, exec_all}
 use Rattle.awk_merging.specs.definitions.Gathering.{Table, IsFree}
-use Rattle.awk_merging.specs.definitions.Sums.{Sum, ByKey, Alone, name_of_sum, merge_key, print_sums, is_taken, Holds, cell_text}
+use Rattle.awk_merging.specs.definitions.Sums.{Sum, ByKey, Alone, name_of_sum, merge_key, refuse_newline, print_sums, is_taken, Holds, cell_text}
 
 -- the text is one line: it has no newline
 abbrev pub IsLine : List ℕ → Type 0
@@ -68,3 +71,8 @@ pub record Shows (base : State) (v : List ℕ → Value) (k : ℕ) (shown : List
 abbrev pub LawOfCells : Type 0
 LawOfCells = (functions : Functions) (base : State) (v : List ℕ → Value) (held : Held) (k : ℕ) → AreHeld (state_at base v k) held →
     Shows base v k (all_cells held) (exec_all functions (print_sums (sums_of held)) (state_at base v (steps_of_sums held k)))
+
+-- where the key at hand has a newline, the statement before a cell's ends the run with status 1
+abbrev pub LawOfNewlines : Type 0
+LawOfNewlines = (functions : Functions) (base : State) (v : List ℕ → Value) (k i : ℕ) (key : List ℕ) → first_at (10 ∷ []) key ≡ Some i →
+    exec functions refuse_newline (state_at base (with_value v merge_key (value.Text key)) (suc (suc k))) ≡ ends halt.Exit (record (state_at base (with_value v merge_key (value.Text key)) k) { status = 1 })
