@@ -162,8 +162,8 @@ element_assigned w {a = a} {m = m} {m' = m'} alike g operands calls = record {
 }
 
 -- an element's number is raised
-pub element_raised : {o : IncrementOperator} {a : Array} {m m' : Machine} → Gives (post_increment_at m.runtime.names.scalars o (place.Element a) (first m.operands.values)) m.runtime (Ok tt) m'.runtime → m'.operands ≡ record m.operands { values = drop 1 m.operands.values } → m'.calls ≡ m.calls → Done (λ r. Computes (v.PostIncrement o (place.Element a)) m r m') (Ok tt)
-element_raised g operands calls = record { done = (g.gives.0, record { operands = operands; calls = calls; changes = λ tables functions. g.gives.1 }) }
+pub element_raised : {o : IncrementOperator} {a : Array} {m m' : Machine} {w : Value} → Changes (post_increment_at m.runtime.names.scalars o (place.Element a) (first m.operands.values)) m.runtime m'.runtime (Ok w) → m'.operands ≡ record m.operands { values = drop 1 m.operands.values } → m'.calls ≡ m.calls → Done (λ r. Computes (v.PostIncrement o (place.Element a)) m r m') (Ok tt)
+element_raised {w = w} h operands calls = record { done = (w, record { operands = operands; calls = calls; changes = λ tables functions. h }) }
 
 -- what became of an element that is given the topmost value
 given_by : {a : Array} {m mid m' : Machine} (r : Result (Unit {0}) Halt) → Keeps mid m' → Gives (assign_by_at m.runtime.names.scalars None (place.Element a) (second m.operands.values) (first m.operands.values)) m.runtime r mid.runtime → mid.operands ≡ record m.operands { values = drop 2 m.operands.values } → mid.calls ≡ m.calls → Done (λ q. Computes (v.Assign assignment.Plain (place.Element a)) m q m') (without_value r)

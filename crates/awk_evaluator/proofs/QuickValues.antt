@@ -217,3 +217,12 @@ element_puts {m = m} {a = a} {w = w} top h operands calls runtime = record {
   calls = calls;
   changes = λ tables functions. rw runtime (subst (λ (k : Value). Changes (read_element_of a (str_of k)) m.runtime m.runtime (Ok w)) top h);
 }
+
+-- the number of an element that is raised
+pub element_raised_puts : {m m' : Machine} {o : IncrementOperator} {a : Array} {key : Value} {z : ℤ} → key ≡ first m.operands.values → Changes (post_increment_at m.runtime.names.scalars o (place.Element a) key) m.runtime m'.runtime (Ok (value.Number z)) → m'.operands ≡ record m.operands { values = value.Number z ∷ drop 1 m.operands.values } → m'.calls ≡ m.calls → Puts (v.PostIncrement o (place.Element a)) m m'
+element_raised_puts {m = m} {m' = m'} {o = o} {a = a} {z = z} top h operands calls = record {
+  value = value.Number z;
+  operands = operands;
+  calls = calls;
+  changes = λ tables functions. subst (λ (k : Value). Changes (post_increment_at m.runtime.names.scalars o (place.Element a) k) m.runtime m'.runtime (Ok (value.Number z))) top h;
+}

@@ -410,7 +410,7 @@ impl Machine {
     }
 
     /// Raises or lowers an element's number by 1, where that changes where it stands.
-    #[inline(always)]
+    #[inline(never)]
     fn raise_in(&mut self, operator: IncrementOperator, place: &Place) -> bool
         ensures raised { result ≡ true → Done (λ r. Computes (PostIncrement operator place.now) self.old r self.new) (Ok tt) }
         ensures kept { result ≡ false → self.new ≡ self.old }
@@ -421,10 +421,10 @@ impl Machine {
         let Some(key) = self.operands.top() else {
             return false;
         };
-        if !self.runtime.raise_element(operator, *array, key) {
+        let Some(_) = self.runtime.raise_element(operator, *array, key) else {
             return false;
-        }
-        self.operands.drop(1);
+        };
+        self.operands.pop();
         true
     }
 

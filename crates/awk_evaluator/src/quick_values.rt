@@ -60,6 +60,9 @@ impl Machine {
             ValueNode::PostIncrement(operator, Place::Variable(variable)) => {
                 self.put_raised(*operator, variable)
             }
+            ValueNode::PostIncrement(operator, Place::Element(array)) => {
+                self.put_raised_in(*operator, *array)
+            }
             ValueNode::PreIncrement(operator, Place::Variable(variable)) => {
                 self.put_raised_first(*operator, variable)
             }
@@ -334,6 +337,22 @@ impl Machine {
             return false;
         };
         self.operands.replace(Value::Number(n));
+        true
+    }
+
+    /// Raises or lowers the number of the element whose key lies on top by 1, and puts the number that it had in the key's place.
+    #[inline(never)]
+    fn put_raised_in(&mut self, operator: IncrementOperator, array: Array) -> bool
+        ensures puts { result ≡ true → Puts (PostIncrement operator (Place.Element array)) self.old self.new }
+        ensures kept { result ≡ false → self.new ≡ self.old }
+    {
+        let Some(key) = self.operands.top() else {
+            return false;
+        };
+        let Some(n) = self.runtime.raise_element(operator, array, key) else {
+            return false;
+        };
+        self.operands.replace_by(n);
         true
     }
 

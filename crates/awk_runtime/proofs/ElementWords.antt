@@ -155,16 +155,14 @@ module _ (m : Runtime) (a : Array) (operand : Value) (n : ℕ) (number : n ≡ k
   pub element_found_updated : {old new : Value} → Some old ≡ value_at (array_of m.arrays n) (str_of operand) → {u : Updated} → new ≡ value.Number u.after → (o : Operator) (z : ℤ) → old ≡ value.Number u.before → applied o (value.Number u.before) (value.Number z) ≡ Ok (value.Number u.after) → Updates o (place.Element a) operand (value.Number z) m (record m { arrays = slice_set m.arrays n (with_pair (array_of m.arrays n) (str_of operand) new) }) u
   element_found_updated at {u = u} put o z was made = element_updated o z u.before u.after (ap Some (sym was) ∙ at) made (ap (λ v. slice_set m.arrays n (with_pair (array_of m.arrays n) (str_of operand) v)) put)
 
+  pub element_raised : {old new : Value} → Some old ≡ value_at (array_of m.arrays n) (str_of operand) → {u : Updated} → new ≡ value.Number u.after → (o : IncrementOperator) → old ≡ value.Number u.before → applied (by_one o) (value.Number u.before) one ≡ Ok (value.Number u.after) → Changes (post_increment_at m.names.scalars o (place.Element a) operand) m (record m { arrays = slice_set m.arrays n (with_pair (array_of m.arrays n) (str_of operand) new) }) (Ok (value.Number u.before))
+  element_raised at {u = u} put o was made = post_updated o (place.Element a) operand (element_found_updated at {u = u} put (by_one o) (pos 1) was made)
+
   module _ {before after : Value} {xs : List Elements} (at : Some before ≡ value_at (array_of m.arrays n) (str_of operand)) (put : xs ≡ slice_set m.arrays n (with_pair (array_of m.arrays n) (str_of operand) after)) where
     pub element_changed : (o : Option Operator) (z : ℤ) → ChangesValue o z before after → Gives (assign_by_at m.names.scalars o (place.Element a) operand (value.Number z)) m (Ok tt) (record m { arrays = xs })
     element_changed None z c = element_assigned (value.Number z) (put ∙ ap (λ v. slice_set m.arrays n (with_pair (array_of m.arrays n) (str_of operand) v)) c.changes)
     element_changed (Some o) z c = record {
       gives = (value.Number c.changes.1, by_updated o (place.Element a) operand (value.Number z) (element_updated o z c.changes.0 c.changes.1 (ap Some (sym c.changes.2) ∙ at) c.changes.4 (put ∙ ap (λ v. slice_set m.arrays n (with_pair (array_of m.arrays n) (str_of operand) v)) c.changes.3)));
-    }
-
-    pub element_raised : (o : IncrementOperator) → ChangesValue (Some (by_one o)) (pos 1) before after → Gives (post_increment_at m.names.scalars o (place.Element a) operand) m (Ok tt) (record m { arrays = xs })
-    element_raised o c = record {
-      gives = (value.Number c.changes.0, post_updated o (place.Element a) operand (element_updated (by_one o) (pos 1) c.changes.0 c.changes.1 (ap Some (sym c.changes.2) ∙ at) c.changes.4 (put ∙ ap (λ v. slice_set m.arrays n (with_pair (array_of m.arrays n) (str_of operand) v)) c.changes.3)));
     }
 
 module _ (m : Runtime) (a : Array) (operand : Value) (n : ℕ) (number : n ≡ kept_number a m.frames) (absent : value_at (array_of m.arrays n) (str_of operand) ≡ None) where
@@ -200,10 +198,5 @@ module _ (m : Runtime) (a : Array) (operand : Value) (n : ℕ) (number : n ≡ k
     element_begun assignment.Remainder z c = begun_by operator.Remainder z (ap (λ x. applied operator.Remainder x (value.Number z)) c.changes.2 ∙ c.changes.4) c.changes.3
     element_begun assignment.Power z c = begun_by operator.Power z (ap (λ x. applied operator.Power x (value.Number z)) c.changes.2 ∙ c.changes.4) c.changes.3
 
-    pub raise_begun : (o : IncrementOperator) → ChangesValue (Some (by_one o)) (pos 1) (value.Number (pos 0)) after → Gives (post_increment_at m.names.scalars o (place.Element a) operand) m (Ok tt) (record m { arrays = xs })
-    raise_begun o c = record {
-      gives = (
-        value.Number (pos 0),
-        post_stored o (place.Element a) operand (pos 0) element_made refl (lift_changes _ begun (ap (λ x. applied (by_one o) x one) c.changes.2 ∙ c.changes.4)) (element_stored begun a (str_of operand) n number (value.Number c.changes.1) (put_then (value.Number c.changes.1) (put ∙ ap (λ v. slice_set m.arrays n (with_pair (array_of m.arrays n) (str_of operand) v)) c.changes.3))),
-      );
-    }
+    pub raise_begun : (o : IncrementOperator) → ChangesValue (Some (by_one o)) (pos 1) (value.Number (pos 0)) after → Changes (post_increment_at m.names.scalars o (place.Element a) operand) m (record m { arrays = xs }) (Ok (value.Number (pos 0)))
+    raise_begun o c = post_stored o (place.Element a) operand (pos 0) element_made refl (lift_changes _ begun (ap (λ x. applied (by_one o) x one) c.changes.2 ∙ c.changes.4)) (element_stored begun a (str_of operand) n number (value.Number c.changes.1) (put_then (value.Number c.changes.1) (put ∙ ap (λ v. slice_set m.arrays n (with_pair (array_of m.arrays n) (str_of operand) v)) c.changes.3)))

@@ -1,6 +1,6 @@
 // Elements that are at hand: they are read, tested and changed where they stand, and found once.
 
-ghost use Rattle.std.specs.Prelude.{◌≡◌, None, Ok, IfSome, true, false};
+ghost use Rattle.std.specs.Prelude.{◌≡◌, pos, None, Ok, IfSome, IfNone, true, false};
 ghost use Rattle.awk_value.specs.Values.{str_of};
 ghost use Rattle.awk_value.specs.declared.value.Value.TheVariants.{Number};
 ghost use Rattle.awk_runtime.specs.support.Simulation.{Changes};
@@ -14,7 +14,9 @@ ghost use Rattle.awk_value.specs.Arrays.{value_at};
 ghost use Rattle.awk_storage.specs.support.Tables.{array_of};
 
 use crate::at_hand::{number_assigned, number_by, number_raised, set_number};
+use crate::places::update_of;
 use crate::runtime::Runtime;
+use awk_functions::by_one;
 use awk_lex::token::{AssignmentOperator, IncrementOperator};
 use awk_semantics::Halt;
 use awk_storage::Array;
@@ -118,28 +120,37 @@ impl Runtime {
             .is_ok()
     }
 
-    /// Raises or lowers an element's number by 1. `false`, and nothing changes, where that isn't done where it stands.
-    #[inline(never)]
-    pub fn raise_element(&mut self, operator: IncrementOperator, array: Array, key: &Value) -> bool
-        ensures raises { result ≡ true → Gives (post_increment_at self.old.names.scalars operator (Element array) key.now) self.old (Ok tt) self.new }
-        ensures kept { result ≡ false → self.new ≡ self.old }
+    /// Raises or lowers an element's number by 1; gives the number that it had. `None`, and nothing changes, where that isn't done
+    /// where it stands.
+    #[inline(always)]
+    pub fn raise_element(
+        &mut self,
+        operator: IncrementOperator,
+        array: Array,
+        key: &Value,
+    ) -> Option<i128>
+        ensures some { IfSome result (λ n. Changes (post_increment_at self.old.names.scalars operator (Element array) key.now) self.old self.new (Ok (Number n))) }
+        ensures none { IfNone result (self.new ≡ self.old) }
     {
         let number = self.number_at(array);
         let Some(place) = self.arrays.value_mut(number as usize, key) else {
-            return self.begin_raised(operator, array, key);
+            if self.begin_raised(operator, array, key) {
+                return Some(0);
+            }
+            return None;
         };
-        let Some(new) = number_raised(operator, place) else {
-            return false;
+        let Some(updated) = update_of(by_one(operator), place, 1) else {
+            return None;
         };
-        set_number(place, new);
-        true
+        set_number(place, updated.after);
+        Some(updated.before)
     }
 
     /// Makes an element, which gets the number that follows 0, or that stands before it.
     #[inline(never)]
     fn begin_raised(&mut self, operator: IncrementOperator, array: Array, key: &Value) -> bool
         requires absent { value_at (array_of self.old.arrays (kept_number array self.old.frames)) (str_of key.now) ≡ None }
-        ensures raises { result ≡ true → Gives (post_increment_at self.old.names.scalars operator (Element array) key.now) self.old (Ok tt) self.new }
+        ensures raises { result ≡ true → Changes (post_increment_at self.old.names.scalars operator (Element array) key.now) self.old self.new (Ok (Number (pos 0))) }
         ensures kept { result ≡ false → self.new ≡ self.old }
     {
         let Some(new) = number_raised(operator, &Value::Number(0)) else {

@@ -27,7 +27,7 @@ pub(crate) struct Updated {
 /// A value's number, and what an operator makes of it and of another one. `None` where the value is none, or that isn't found in a
 /// few steps.
 #[inline(always)]
-fn update_of(operator: Operator, old: &Value, n: i128) -> Option<Updated>
+pub(crate) fn update_of(operator: Operator, old: &Value, n: i128) -> Option<Updated>
     ensures before { IfSome result (λ u. old.now ≡ Number u.before) }
     ensures after { IfSome result (λ u. applied operator (Number u.before) (Number n) ≡ Ok (Number u.after)) }
 {
