@@ -1,5 +1,5 @@
 -- What a pattern that is kept finds is what the definitions say of the text that spells it.
-use Rattle.std.proofs.Common.{◌≡◌, ℕ, zero, suc, ◌<◌, Bool, List, Option, Some, None, Result, Ok, Err, refl, sym, ap, ◌∙◌, subst, arith}
+use Rattle.std.proofs.Common.{◌≡◌, ℕ, zero, suc, ◌-◌, ◌<◌, Bool, List, [], ◌∷◌, ◌++◌, take, drop, Option, Some, None, Result, Ok, Err, refl, sym, ap, ◌∙◌, subst, arith}
 use Rattle.std.proofs.Math.Logic.{∥∥₁_elim}
 use Rattle.std.proofs.Props.{props}
 use Rattle.std.specs.Prelude.{◌↔◌, false, IfSome, IfErr, OnOk}
@@ -104,6 +104,26 @@ module _ (law : ExchangeLaw) (text s replacement : List ℕ) (p : Pattern) (all 
   exchanged_none o is replaced =
       let kept = kept_tree text p means in
       told kept.tree 0 s kept.spelled (same kept.tree 0 s kept.means (λ m. subst (Substitutes kept.tree replacement s all) is (replaced kept.tree m)))
+
+  pub first_exchanged : (made : List ℕ) → ((t : Tree) → Means t p → Replaced t replacement s all 1 made) → exchanged_by all (pattern_in text) replacement s ≡ Ok (made_of 1 made)
+  first_exchanged made replaced =
+      let kept = kept_tree text p means in
+      told kept.tree 1 made kept.spelled (same kept.tree 1 made kept.means (λ m. replaced kept.tree m))
+
+  pub nothing_exchanged : ((t : Tree) → Means t p → Replaced t replacement s all 0 s) → exchanged_by all (pattern_in text) replacement s ≡ Ok None
+  nothing_exchanged replaced =
+      let kept = kept_tree text p means in
+      told kept.tree 0 s kept.spelled (same kept.tree 0 s kept.means (λ m. replaced kept.tree m))
+
+-- a first match that is left out
+
+pub left_out : (t : Tree) (s : List ℕ) (m : Span) → IsNextMatch t s None (Some m) → Replaced t [] s false 1 (take m.start s ++ drop m.end s)
+left_out t s m next =
+    let whole : m.start ≡ m.start - 0 = omega arith in
+    record { matches = m ∷ []; chosen = next; counted = refl; bytes = ap (λ n. take n s ++ drop m.end s) whole }
+
+pub none_left_out : (t : Tree) (s : List ℕ) → IsNextMatch t s None None → Replaced t [] s false 0 s
+none_left_out t s next = record { matches = []; chosen = next; counted = refl; bytes = refl }
 
 -- the pieces between matches
 

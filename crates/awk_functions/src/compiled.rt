@@ -1,6 +1,6 @@
 // A pattern with the text that spells it, and what it finds.
 
-ghost use Rattle.std.specs.Prelude.{◌≡◌, ◌≤◌, length, Ok, IfSome, OnOk};
+ghost use Rattle.std.specs.Prelude.{◌≡◌, ◌≤◌, ◌++◌, [], false, length, take, drop, Ok, IfSome, IfOk, OnOk};
 ghost use Rattle.awk_ere.specs.Means.{pattern_of};
 ghost use Rattle.awk_ere.specs.Table.{IsFor};
 ghost use Rattle.awk_text.specs.Pieces.{stretches_at, AreSpansOf, IsSpanOf};
@@ -17,7 +17,7 @@ use awk_ere::{Pattern, Scratch};
 use awk_semantics::{Halt, law_of_exchanges, law_of_matches};
 use awk_text::{Span, match_at, split_between, substitute};
 use awk_value::Bytes;
-use std::alloc::Global;
+use std::alloc::{AllocError, Global};
 
 /// A pattern that was read, the text that spells it, and the room of its searches, which is large and stands elsewhere, so
 /// that this is moved as a few words.
@@ -28,6 +28,23 @@ pub struct Compiled {
     scratch: Box<Scratch>,
     ghost means: { ∥ MeansOf (pattern_of text) pattern ∥₁ },
     ghost fits: { IsFor scratch.value pattern },
+}
+
+/// A text without a part. What stands before or behind one at its end or its front shares its memory.
+fn without(alloc: Global, text: &Bytes, part: Span) -> Result<Bytes, AllocError>
+    requires { IsSpanOf text.now part }
+    ensures { IfOk result (λ rest. rest ≡ take part.start text.now ++ drop part.end text.now) }
+{
+    if part.start == 0 {
+        let behind = text.cut(part.end, text.len())?;
+        return Ok(behind);
+    }
+    let mut rest = text.cut(0, part.start)?;
+    if part.end == text.len() {
+        return Ok(rest);
+    }
+    rest.extend_from_slice(alloc, &text.as_slice()[part.end..])?;
+    Ok(rest)
 }
 
 impl Compiled {
@@ -111,6 +128,20 @@ impl Compiled {
             })),
             None => Ok(None),
         }
+    }
+
+    /// The text without its first match; nothing where nothing matches. What a match at its front or at its end leaves shares its memory.
+    /// The only fault is want of memory. (POSIX awk, String Functions: sub)
+    pub fn leave_out(&mut self, alloc: Global, text: &Bytes) -> Result<Option<Exchanged>, Halt>
+        ensures exchanged { Yields result (exchanged_by false (pattern_in self.old.text) [] text.now) }
+        ensures text { self.new.text ≡ self.old.text }
+    {
+        law_of_exchanges();
+        let Some(found) = match_at(&self.pattern, text.as_slice(), &mut self.scratch) else {
+            return Ok(None);
+        };
+        let text = without(alloc, text, found)?;
+        Ok(Some(Exchanged { count: 1, text }))
     }
 
     /// Fills `spans` with the pieces of the text that stand between the matches of the pattern with a byte in them, in

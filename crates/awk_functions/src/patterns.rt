@@ -1,6 +1,6 @@
 // The patterns of a run, each of which is read once.
 
-ghost use Rattle.std.specs.Prelude.{◌≡◌, ◌<◌, ◌≤◌, length, get_or, vec_len, false, Ok, IfSome, IfOk, IfErr, OnOk};
+ghost use Rattle.std.specs.Prelude.{◌≡◌, ◌<◌, ◌≤◌, [], length, get_or, vec_len, true, false, Ok, IfSome, IfOk, IfErr, OnOk};
 ghost use Rattle.awk_value.specs.Values.{str_of};
 ghost use Rattle.awk_ere.specs.Means.{pattern_of};
 ghost use Rattle.awk_text.specs.Pieces.{stretches_at, AreSpansOf};
@@ -59,6 +59,17 @@ fn bytes_in<'a>(value: &'a Value, buffer: &'a mut Buffer) -> &'a [u8]
     match value {
         Value::Text(text) | Value::Input(text) => text.as_slice(),
         value => text_in(value, buffer),
+    }
+}
+
+// Whether a value is an empty text.
+#[inline(always)]
+fn is_empty(value: &Value) -> bool
+    ensures { result ≡ true → str_of value.now ≡ [] }
+{
+    match value {
+        Value::Text(text) | Value::Input(text) => text.is_empty(),
+        Value::Nothing | Value::Number(_) => false,
     }
 }
 
@@ -296,6 +307,11 @@ impl Patterns {
     {
         let alloc = self.alloc;
         let pattern = self.pattern_for(operand)?;
+        if !all && is_empty(replacement) {
+            if let Value::Text(text) | Value::Input(text) = text {
+                return pattern.leave_out(alloc, text);
+            }
+        }
         let mut replacement_digits = Buffer::new();
         let mut text_digits = Buffer::new();
         let replacement = text_in(replacement, &mut replacement_digits);
