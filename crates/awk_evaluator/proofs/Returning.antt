@@ -35,6 +35,10 @@ given_back {m = m} {m' = m'} e is left operands = record {
 pub not_given : {m m' : Machine} (e : CodeEntry) {w : Value} → m.calls ≡ m'.calls ++ e ∷ [] → Changes leave m.runtime m'.runtime (Ok tt) → m'.halt ≡ halt.Fault OutOfMemory → GivesBack w m move.Halted m'
 not_given {m = m} {m' = m'} e is left halted = record { gives = (record { next = e.next; values = reverse (drop e.base m.operands.below) }, seen (take e.base m.operands.below) (reverse m'.calls), newest_seen m.operands m.calls m'.calls e is, left, halted) }
 
+-- where no call is active, and none has an operand, all is over
+pub over_at_once : (m : Machine) → m.operands ≡ record { values = []; below = [] } → m.calls ≡ [] → GivesBack value.Nothing m move.Over m
+over_at_once m none over = record { gives = (ap (λ o. first o.values) none, over, over, refl) }
+
 -- where the newest call has no operand, there is no value
 pub nothing_given : (m : Machine) {m' : Machine} {o : OperandsView} (to : Move) → o ≡ record m.operands { values = [] } → GivesBack (first o.values) (record m { operands = o }) to m' → GivesBack value.Nothing m to m'
 nothing_given m {m' = m'} {o = o} to is g = record { gives = by to (subst (λ (x : OperandsView). GivesBackBy (first x.values) (record m { operands = x }) to m') is g.gives) }

@@ -1,6 +1,6 @@
 // Where the callers of the active calls go on.
 
-ghost use Rattle.std.specs.Prelude.{◌≡◌, [], ◌∷◌, ◌++◌, OnOk, OnErr, IfSome, IfNone};
+ghost use Rattle.std.specs.Prelude.{◌≡◌, true, [], ◌∷◌, ◌++◌, OnOk, OnErr, IfSome, IfNone};
 
 use crate::entry::Entry;
 use std::alloc::{AllocError, Global};
@@ -49,6 +49,14 @@ impl Calls {
         ensures kept { IfNone result (self.new ≡ []) }
     {
         self.entries.pop()
+    }
+
+    /// Whether no call is active.
+    #[inline(always)]
+    pub fn are_over(&self) -> bool
+        ensures { result ≡ true → self.now ≡ [] }
+    {
+        self.entries.is_empty()
     }
 
     /// All calls are over.

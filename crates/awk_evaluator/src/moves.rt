@@ -180,8 +180,19 @@ impl Machine {
     }
 
     /// Gives back that there is no value.
-    #[inline(never)]
+    #[inline(always)]
     pub(crate) fn give_nothing(&mut self) -> Move
+        ensures { GivesBack Nothing self.old result self.new }
+    {
+        if self.operands.are_none() && self.calls.are_over() {
+            return Move::Over;
+        }
+        self.give_nothing_to_caller()
+    }
+
+    /// The same where a call is active, or its operands aren't dropped yet.
+    #[inline(never)]
+    fn give_nothing_to_caller(&mut self) -> Move
         ensures { GivesBack Nothing self.old result self.new }
     {
         self.operands.drop_all();

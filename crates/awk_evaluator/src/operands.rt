@@ -290,6 +290,14 @@ impl Operands {
         Ok(())
     }
 
+    /// Whether no call has any.
+    #[inline(always)]
+    pub fn are_none(&self) -> bool
+        ensures { result ≡ true → self.now ≡ record { values = []; below = [] } }
+    {
+        self.values.is_empty()
+    }
+
     /// There are none any more.
     pub fn clear(&mut self)
         ensures { self.new ≡ record { values = []; below = [] } }

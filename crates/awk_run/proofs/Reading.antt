@@ -1,5 +1,5 @@
 -- The main records, by what their parts do.
-use Rattle.std.proofs.Common.{◌≡◌, ℕ, ◌≤◌, ◌<◌, zero, suc, List, Some, None, Result, Ok, Err, refl, ◌∙◌, arith}
+use Rattle.std.proofs.Common.{◌≡◌, ℕ, ◌≤◌, ◌<◌, zero, suc, Bool, true, false, List, Some, None, Result, Ok, Err, refl, ◌∙◌, arith}
 use Rattle.awk_value.specs.declared.value.Value.{Value}
 use Rattle.awk_streams.specs.WorldState.{WorldState}
 use Rattle.awk_resolve.specs.declared.plan.Plan.{Plan}
@@ -10,9 +10,10 @@ use Rattle.awk_semantics.specs.definitions.Inputs.{next_record}
 use Rattle.awk_semantics.specs.definitions.Items.{until_next, begin_record, on_record, each_record, run_records}
 use Rattle.awk_runtime.specs.declared.runtime.Runtime.{Runtime}
 use Rattle.awk_runtime.specs.support.Simulation.{Simulates, Changes, Spends, Follows}
+use Rattle.awk_runtime.specs.support.Inputs.{Begins, BeginsWhere}
 use Rattle.awk_run.specs.support.Planned.{place_in, part_at}
-use Rattle.awk_run.specs.support.Follows.{Part, FollowsPlan, ReadsOn, IsSet}
-use Rattle.awk_run.proofs.PlanParts.{then_follows, ends_follows, lift_follows, change_follows, world_follows, set_behind}
+use Rattle.awk_run.specs.support.Follows.{Part, FollowsPlan, ReadsOn, FindsNext, ReadsNext, IsSet}
+use Rattle.awk_run.proofs.PlanParts.{then_follows, ends_follows, lift_follows, change_follows, world_follows, set_behind, set_follows}
 
 -- what is done with a record, and then with the others
 abbrev rest_of : Plan → ℕ → (ℕ → Run Value) → List ℕ → Run (Unit {0})
@@ -82,3 +83,25 @@ module _ {is_logged : Type 0} {plan : Plan} where
 -- what is known of the state behind a record's beginning
 pub begun_set : (text : List ℕ) {is_logged : Type 0} {plan : Plan} {m m1 m2 : Runtime} {k : WorldState} {r : Result (Unit {0}) Halt} → Spends m m1 (Ok tt) → Changes (begin_record text) m1 m2 r → IsSet is_logged plan m k → IsSet is_logged plan m2 k
 begun_set text q r set = set_behind r (set_behind q.changes set)
+
+-- a record that is found begins, or that fails
+pub unset_at_hand : {is_logged : Type 0} {m new : Runtime} {k k1 : WorldState} {h : Halt} → Begins is_logged m k new k1 (Err h) → ReadsNext is_logged m k new k1 (Err h)
+unset_at_hand b = record { finds = λ plan. reading_unset b.reads b.spends b.begins; set = λ plan set. begun_set b.text b.spends b.begins (set_follows b.reads b.ready set) }
+
+pub found_at_hand : {is_logged : Type 0} {m new : Runtime} {k k1 : WorldState} {found : Bool} → BeginsWhere is_logged m k new k1 (Ok found) → found ≡ true → ReadsNext is_logged m k new k1 (Ok true)
+found_at_hand {found = true} b is = record { finds = b; set = λ plan set. begun_set b.text b.spends b.begins (set_follows b.reads b.ready set) }
+found_at_hand {found = false} b is = absurd (cc)
+
+-- where none is at hand, nothing changes
+pub none_at_hand : (is_logged : Type 0) (k k1 : WorldState) {m new : Runtime} {found : Bool} → BeginsWhere is_logged m k new k1 (Ok found) → found ≡ false → new ≡ m
+none_at_hand is_logged k k1 {found = true} b is = absurd (cc)
+none_at_hand is_logged k k1 {found = false} b is = b
+
+-- the next record has begun, or there is none
+pub begun_in : {is_logged : Type 0} {m new : Runtime} {k k1 : WorldState} {found : Bool} → FindsNext is_logged m k new k1 (Ok found) → found ≡ true → Begins is_logged m k new k1 (Ok tt)
+begun_in {found = true} b is = b
+begun_in {found = false} b is = absurd (cc)
+
+pub over_in : {is_logged : Type 0} {m new : Runtime} {k k1 : WorldState} {found : Bool} → FindsNext is_logged m k new k1 (Ok found) → found ≡ false → Follows is_logged next_record m k new k1 (Ok None)
+over_in {found = true} p is = absurd (cc)
+over_in {found = false} p is = p

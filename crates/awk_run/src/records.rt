@@ -3,8 +3,9 @@
 ghost use Rattle.std.specs.Prelude.{◌≡◌, true, Some, IfSome};
 ghost use Rattle.awk_semantics.specs.Items.{until_next, run_records};
 ghost use Rattle.awk_run.specs.support.Planned.{part_at};
-ghost use Rattle.awk_run.specs.support.Follows.{FollowsPlan, IsSet};
+ghost use Rattle.awk_run.specs.support.Follows.{FollowsPlan, IsSet, ReadsNext};
 ghost use Rattle.awk_run.specs.support.Passing.{IsEnd, RulesIgnore, PassesFor};
+ghost use Rattle.awk_runtime.specs.Simulation.{IsReady};
 ghost use Rattle.awk_evaluator.specs.Moves.{IsIdle};
 
 use crate::items::try_until_next;
@@ -50,6 +51,34 @@ fn pass_over<W: World>(
     None
 }
 
+/// Reads the next main record, and makes it the record at hand: whether there is one.
+#[inline(always)]
+fn begin_next<W: World>(machine: &mut Machine, world: &mut W) -> Result<bool, Halt>
+    requires ready { IsReady W.is_logged (W.state world.old) machine.old.runtime.streams }
+    ensures next { ReadsNext W.is_logged machine.old.runtime (W.state world.old) machine.new.runtime (W.state world.new) result }
+    ensures idle { IsIdle machine.old → IsIdle machine.new }
+{
+    if machine.runtime.begin_at_hand::<W>()? {
+        return Ok(true);
+    }
+    search_next(machine, world)
+}
+
+/// The same, where the record may have to be looked for.
+#[inline(never)]
+fn search_next<W: World>(machine: &mut Machine, world: &mut W) -> Result<bool, Halt>
+    requires ready { IsReady W.is_logged (W.state world.old) machine.old.runtime.streams }
+    ensures next { ReadsNext W.is_logged machine.old.runtime (W.state world.old) machine.new.runtime (W.state world.new) result }
+    ensures idle { IsIdle machine.old → IsIdle machine.new }
+{
+    let Some(text) = machine.runtime.next_record(world)? else {
+        return Ok(false);
+    };
+    machine.runtime.spend()?;
+    machine.runtime.begin_record(text)?;
+    Ok(true)
+}
+
 /// Reads the main records to their end, and tries the rules on each (POSIX awk, Overall Program
 /// Structure).
 pub(crate) fn run_records<W: World>(
@@ -66,11 +95,9 @@ pub(crate) fn run_records<W: World>(
     let mut unwanted = unwanted_by(plan);
     loop {
         unwanted = pass_over(unwanted, machine, world);
-        let Some(text) = machine.runtime.next_record(world)? else {
+        if !begin_next(machine, world)? {
             return Ok(());
-        };
-        machine.runtime.spend()?;
-        machine.runtime.begin_record(text)?;
+        }
         try_until_next(plan, machine, world)?;
     }
 }

@@ -2,6 +2,7 @@
 use Rattle.std.proofs.Math.Seq.{take-length}
 use Rattle.std.proofs.lemmas.List.{length-drop}
 use Rattle.std.proofs.Common.{take, drop, length, ◌-◌, ◌≡◌, ℕ, ◌≤◌, zero, suc, Bool, true, false, List, [], Option, Some, None, Result, Ok, Err, refl, sym, ap, ◌∙◌, subst, arith}
+use Rattle.std.specs.Prelude.{IfSome}
 use Rattle.awk_world.specs.declared.world.InputKind.{InputKind}
 use Rattle.awk_world.specs.declared.world.InputKind.TheVariants.{Standard, File}
 use Rattle.awk_streams.specs.WorldState.{WorldState}
@@ -10,7 +11,7 @@ use Rattle.awk_semantics.specs.Primitives.{take_argument}
 use Rattle.awk_semantics.specs.Streams.{begin_input, take_record, close_main, is_input_seen}
 use Rattle.awk_semantics.specs.Inputs.{assign_text, Operand, Nothing, Assignment, StandardInput, AFile, operand_of, main_record, path_of, first_record, record_by, operand_record, standard_record, search_operands_within, search_operands, next_record}
 use Rattle.awk_runtime.specs.declared.runtime.Runtime.{Runtime}
-use Rattle.awk_runtime.specs.support.Simulation.{Simulates, Changes, Spends, Follows}
+use Rattle.awk_runtime.specs.support.Simulation.{Simulates, Changes, Spends, Follows, IsReady}
 use Rattle.awk_runtime.specs.support.Inputs.{OpensMainInput, ClosedUnless, Seeks, SearchesOn}
 use Rattle.awk_runtime.proofs.Composition.{then_simulates, ends_simulates, lift_simulates, change_simulates}
 use Rattle.awk_runtime.proofs.Steps.{reads_changes, still}
@@ -132,6 +133,12 @@ next_ends p = record { simulates = ends_simulates _ p.simulates }
 pub next_gives : {is_logged : Type 0} {text : List ℕ} {m m1 : Runtime} {k k1 : WorldState} → Seeks is_logged main_record m k m1 k1 (Ok (Some text)) → Follows is_logged next_record m k m1 k1 (Ok (Some text))
 unfolding next_record
 next_gives {m1 = m1} {k1 = k1} p = record { simulates = then_simulates _ p.simulates (lift_simulates _ m1 k1 refl) }
+
+-- a record that is at hand is the next one
+pub next_at_hand : (is_logged : Type 0) (found : Option (List ℕ)) (m m1 : Runtime) → IfSome found (λ text. (k : WorldState) → IsReady is_logged k m.streams → Follows is_logged take_record m k m1 k (Ok (Some text)))
+    → IfSome found (λ text. (k : WorldState) → IsReady is_logged k m.streams → Follows is_logged next_record m k m1 k (Ok (Some text)))
+next_at_hand is_logged None m m1 taken = tt
+next_at_hand is_logged (Some text) m m1 taken = λ k ready. next_gives (main_gives (taken k ready))
 
 pub next_seeks : {is_logged : Type 0} {m m1 m2 : Runtime} {k k1 k2 : WorldState} {r : Result (Option (List ℕ)) Halt} → Seeks is_logged main_record m k m1 k1 (Ok None) → Seeks is_logged search_operands m1 k1 m2 k2 r → Follows is_logged next_record m k m2 k2 r
 unfolding next_record

@@ -6,7 +6,7 @@ ghost use Rattle.awk_semantics.specs.Streams.{take_record, close_main};
 ghost use Rattle.awk_semantics.specs.Inputs.{path_of, assign_text, main_record, first_record};
 ghost use Rattle.awk_semantics.specs.Inputs.{operand_record, standard_record, search_operands, next_record};
 ghost use Rattle.awk_runtime.specs.support.Simulation.{IsReady, Changes, Follows};
-ghost use Rattle.awk_runtime.specs.support.Inputs.{OpensMainInput, Seeks};
+ghost use Rattle.awk_runtime.specs.support.Inputs.{BeginsWhere, OpensMainInput, Seeks};
 
 use crate::operands::{OperandForm, form_of};
 use crate::runtime::Runtime;
@@ -42,13 +42,32 @@ impl Runtime {
         }
     }
 
-    // The next record of the main input, where it is at hand: nothing is asked of a world then.
+    /// Reads the next main record, spends a step and makes it the record at hand, where it is at hand by an RS of one byte and a step
+    /// is left: nothing is asked of a world then. `false`, and nothing changes, elsewhere. The faults are those of `begin_record`.
+    /// (POSIX awk, INPUT FILES; RS)
+    #[inline(always)]
+    pub fn begin_at_hand<W: World>(&mut self) -> Result<bool, Halt>
+        ensures begins { (k : WorldState) → IsReady W.is_logged k self.old.streams → BeginsWhere W.is_logged self.old k self.new k result }
+    {
+        if self.steps == 0 {
+            return Ok(false);
+        }
+        let Some(text) = self.record_at_hand::<W>() else {
+            return Ok(false);
+        };
+        self.steps -= 1;
+        self.begin_record(text)?;
+        Ok(true)
+    }
+
+    // The next main record, where it is at hand: nothing is asked of a world then.
     #[inline(always)]
     fn record_at_hand<W: World>(&mut self) -> Option<Bytes>
         ensures none { IfNone result (self.new ≡ self.old) }
+        ensures steps { self.new.steps ≡ self.old.steps }
         ensures ready { (k : WorldState) → IsReady W.is_logged k self.old.streams → IsReady W.is_logged k self.new.streams }
-        ensures taken { IfSome result (λ text. (k : WorldState) → IsReady W.is_logged k self.old.streams →
-            Follows W.is_logged take_record self.old k self.new k (Ok (Some text))) }
+        ensures follows { IfSome result (λ text. (k : WorldState) → IsReady W.is_logged k self.old.streams →
+            Follows W.is_logged next_record self.old k self.new k (Ok (Some text))) }
     {
         let separator = self.specials.record_separator_byte()?;
         self.streams.main_record_at_hand(separator)

@@ -8,8 +8,8 @@ use Rattle.awk_evaluator.specs.Moves.{IsIdle}
 use Rattle.awk_run.proofs.records.run_records.Given as goal
 
 -- the records that are left
-abbrev pub invariant-loop-text : goal.invariant-loop-text
-invariant-loop-text g l = record {
+abbrev pub invariant-loop-machine : goal.invariant-loop-machine
+invariant-loop-machine g l = record {
   on : (new : Runtime) (after : WorldState) (r : Result (Unit {0}) Halt) →
       ReadsOn g.W.World.is_logged l.plan l.machine.runtime (g.W.World.state l.world) new after r →
       ReadsOn g.W.World.is_logged l.plan l.fn.machine.runtime (g.W.World.state l.fn.world) new after r;
@@ -18,5 +18,5 @@ invariant-loop-text g l = record {
   ignored : IfSome l.unwanted (RulesIgnore l.plan);
 }
 
-abbrev pub decreases-loop-text : goal.decreases-loop-text
-decreases-loop-text g l = l.machine.runtime.steps
+abbrev pub decreases-loop-machine : goal.decreases-loop-machine
+decreases-loop-machine g l = l.machine.runtime.steps
