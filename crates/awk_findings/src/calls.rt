@@ -7,9 +7,9 @@ use std::alloc::{AllocError, Global};
 
 /// A stretch of tokens, from one up to another.
 #[derive(Clone, Copy)]
-pub(crate) struct Stretch {
-    pub(crate) from: usize,
-    pub(crate) to: usize,
+pub struct Stretch {
+    pub from: usize,
+    pub to: usize,
 }
 
 /// What a list's brackets are to it.
@@ -29,7 +29,7 @@ fn bracket_of(kind: &Kind) -> Bracket {
 }
 
 /// The place of a token.
-pub(crate) fn place_of(token: &Token) -> Place {
+pub fn place_of(token: &Token) -> Place {
     Place {
         start: token.start,
         end: token.end,
@@ -37,12 +37,12 @@ pub(crate) fn place_of(token: &Token) -> Place {
 }
 
 /// The token at a place as it stands in the text.
-pub(crate) fn text_of<'a>(text: &'a [u8], token: &Token) -> &'a [u8] {
+pub fn text_of<'a>(text: &'a [u8], token: &Token) -> &'a [u8] {
     bytes_of(text, place_of(token))
 }
 
 /// The name that a token is.
-pub(crate) fn name_of(token: &Token) -> Option<&[u8]> {
+pub fn name_of(token: &Token) -> Option<&[u8]> {
     match &token.kind {
         Kind::Name(name) | Kind::Called(name) => Some(name.as_slice()),
         _ => None,
@@ -50,23 +50,19 @@ pub(crate) fn name_of(token: &Token) -> Option<&[u8]> {
 }
 
 /// The kind of the token so many places before one.
-pub(crate) fn kind_before(tokens: &[Token], at: usize, count: usize) -> Option<&Kind> {
+pub fn kind_before(tokens: &[Token], at: usize, count: usize) -> Option<&Kind> {
     let token = tokens.get(at.checked_sub(count)?)?;
     Some(&token.kind)
 }
 
 /// The kind of the token so many places behind one.
-pub(crate) fn kind_behind(tokens: &[Token], at: usize, count: usize) -> Option<&Kind> {
+pub fn kind_behind(tokens: &[Token], at: usize, count: usize) -> Option<&Kind> {
     let token = tokens.get(at.checked_add(count)?)?;
     Some(&token.kind)
 }
 
 /// The arguments of the call whose name stands at a place.
-pub(crate) fn arguments(
-    alloc: Global,
-    tokens: &[Token],
-    at: usize,
-) -> Result<Vec<Stretch>, AllocError> {
+pub fn arguments(alloc: Global, tokens: &[Token], at: usize) -> Result<Vec<Stretch>, AllocError> {
     let mut found = Vec::new(alloc);
     let open = at.saturating_add(1);
     let mut from = open.saturating_add(1);
@@ -93,7 +89,7 @@ pub(crate) fn arguments(
 }
 
 /// The one token of a stretch, where it is one.
-pub(crate) fn only_token(tokens: &[Token], stretch: Stretch) -> Option<&Token> {
+pub fn only_token(tokens: &[Token], stretch: Stretch) -> Option<&Token> {
     if stretch.from.saturating_add(1) != stretch.to {
         return None;
     }
@@ -101,7 +97,7 @@ pub(crate) fn only_token(tokens: &[Token], stretch: Stretch) -> Option<&Token> {
 }
 
 /// The number that a stretch of tokens is, with a minus or without.
-pub(crate) fn constant_of(tokens: &[Token], stretch: Stretch) -> Option<i128> {
+pub fn constant_of(tokens: &[Token], stretch: Stretch) -> Option<i128> {
     match tokens.get(stretch.from..stretch.to)? {
         [only] => match &only.kind {
             Kind::Number(value) => Some(*value),
@@ -116,7 +112,7 @@ pub(crate) fn constant_of(tokens: &[Token], stretch: Stretch) -> Option<i128> {
 }
 
 /// The bytes of the string that a stretch of tokens is.
-pub(crate) fn string_of(tokens: &[Token], stretch: Stretch) -> Option<&[u8]> {
+pub fn string_of(tokens: &[Token], stretch: Stretch) -> Option<&[u8]> {
     match &only_token(tokens, stretch)?.kind {
         Kind::String(bytes) => Some(bytes.as_slice()),
         _ => None,
@@ -124,7 +120,7 @@ pub(crate) fn string_of(tokens: &[Token], stretch: Stretch) -> Option<&[u8]> {
 }
 
 /// The place of a stretch of tokens.
-pub(crate) fn place_of_stretch(tokens: &[Token], stretch: Stretch) -> Option<Place> {
+pub fn place_of_stretch(tokens: &[Token], stretch: Stretch) -> Option<Place> {
     let first = tokens.get(stretch.from)?;
     let last = tokens.get(stretch.to.checked_sub(1)?)?;
     Some(Place {
@@ -134,7 +130,7 @@ pub(crate) fn place_of_stretch(tokens: &[Token], stretch: Stretch) -> Option<Pla
 }
 
 /// A finding at a token.
-pub(crate) fn finding_at(
+pub fn finding_at(
     alloc: Global,
     token: &Token,
     message: &[&[u8]],
@@ -144,7 +140,7 @@ pub(crate) fn finding_at(
 }
 
 /// Whether the operand that ends with a token is joined to nothing behind it.
-pub(crate) fn stands_alone(tokens: &[Token], at: usize) -> bool {
+pub fn stands_alone(tokens: &[Token], at: usize) -> bool {
     match kind_behind(tokens, at, 1) {
         None => true,
         Some(kind) => matches!(

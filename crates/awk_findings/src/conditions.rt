@@ -44,6 +44,19 @@ fn assigns_constant(tokens: &[Token], at: usize) -> bool {
     is_constant && ends
 }
 
+/// Whether a name alone, or a field by a name or a number, stands between an assignment and the end of its brackets.
+fn assigns_place(tokens: &[Token], at: usize) -> bool {
+    let length = match (kind_behind(tokens, at, 1), kind_behind(tokens, at, 2)) {
+        (Some(Kind::Name(_)), _) => 2,
+        (Some(Kind::Dollar), Some(Kind::Name(_) | Kind::Number(_))) => 3,
+        _ => return false,
+    };
+    matches!(
+        kind_behind(tokens, at, length),
+        Some(Kind::CloseParenthesis)
+    )
+}
+
 impl ConditionScan {
     fn step(&mut self, tokens: &[Token], at: usize, token: &Token) -> Result<(), AllocError> {
         match &token.kind {
@@ -54,8 +67,15 @@ impl ConditionScan {
                 let _ = self.owners.pop();
             }
             Kind::Assign(AssignmentOperator::Plain) => {
-                let owner = self.owners.last().copied().unwrap_or(Owner::Condition);
-                if owner == Owner::Condition && assigns_constant(tokens, at) {
+                let owner = self.owners.last().copied();
+                let is_condition = match owner {
+                    Some(Owner::Condition) => {
+                        assigns_constant(tokens, at) || assigns_place(tokens, at)
+                    }
+                    None => assigns_constant(tokens, at),
+                    _ => false,
+                };
+                if is_condition {
                     self.found.push(at)?;
                 }
             }

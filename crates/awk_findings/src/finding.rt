@@ -64,7 +64,7 @@ pub(crate) fn shown(text: &[u8]) -> &[u8] {
 
 impl Finding {
     /// A warning whose message is these parts.
-    pub(crate) fn new(
+    pub fn new(
         alloc: Global,
         place: Option<Place>,
         message: &[&[u8]],

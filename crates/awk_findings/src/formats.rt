@@ -2,10 +2,10 @@
 
 /// A directive that is none, by its bytes in the format.
 #[derive(Clone, Copy)]
-pub(crate) struct FormatFault {
-    pub(crate) start: usize,
-    pub(crate) end: usize,
-    pub(crate) advice: &'static [u8],
+pub struct FormatFault {
+    pub start: usize,
+    pub end: usize,
+    pub advice: &'static [u8],
 }
 
 /// What a byte of a format stands in.
@@ -71,7 +71,7 @@ fn start_of(part: Part) -> Option<usize> {
 }
 
 /// The first directive of a format that is none.
-pub(crate) fn format_fault(format: &[u8]) -> Option<FormatFault> {
+pub fn format_fault(format: &[u8]) -> Option<FormatFault> {
     let mut part = Part::Text;
     for (at, byte) in format.iter().enumerate() {
         match part_behind(part, at, *byte) {

@@ -135,9 +135,15 @@ fn fault_on(
     })
 }
 
-/// What to write instead of a byte that begins no token, by the byte before it.
-fn byte_advice(byte: u8, before: u8) -> &'static [u8] {
+/// Whether bytes begin with a quotation mark of books.
+fn is_curly(bytes: &[u8]) -> bool {
+    matches!(bytes, [0xe2, 0x80, 0x98..=0x9f, ..])
+}
+
+/// What to write instead of a byte that begins no token, by the byte before it and those from it on.
+fn byte_advice(byte: u8, before: u8, behind: &[u8]) -> &'static [u8] {
     match byte {
+        _ if is_curly(behind) => b"a string stands between straight quotes, as \"x\"",
         b'&' if before == b'|' => {
             b"there is no command that is both written to and read: print to \"cmd >file\", close it, and read the file"
         }
@@ -190,13 +196,13 @@ fn number_advice(number: &[u8]) -> &'static [u8] {
     }
 }
 
-/// What to write instead of what was found on a line, behind such a byte.
-fn advice_on(code: RefusalCode, found: &[u8], before: u8, line: &[u8]) -> &'static [u8] {
+/// What to write instead of what was found on a line, behind such a byte, where the line goes on so.
+fn advice_on(code: RefusalCode, found: &[u8], before: u8, behind: &[u8]) -> &'static [u8] {
     match code {
         RefusalCode::UnexpectedByte => {
-            byte_advice(found.first().copied().unwrap_or(b' '), before)
+            byte_advice(found.first().copied().unwrap_or(b' '), before, behind)
         }
-        RefusalCode::OpenString if line.ends_with(b"\\") => {
+        RefusalCode::OpenString if behind.ends_with(b"\\") => {
             b"a string ends on its line: join two, as \"a\" \"b\", with the backslash between them"
         }
         RefusalCode::OpenString => b"close it with \" on the same line; \\n is a newline",
@@ -227,6 +233,17 @@ fn found_text(alloc: Global, found: &[u8]) -> Result<Vec<u8>, AllocError> {
     }
 }
 
+/// The byte before a place.
+fn byte_before(text: &[u8], place: Option<Place>) -> u8 {
+    match place {
+        Some(place) => text
+            .get(place.start.saturating_sub(1))
+            .copied()
+            .unwrap_or(b' '),
+        None => b' ',
+    }
+}
+
 /// What is told of a text that is no list of tokens.
 pub fn lexical_finding(
     alloc: Global,
@@ -242,6 +259,10 @@ pub fn lexical_finding(
         RefusalCode::ProgramTooLong => None,
         _ => fault_on(alloc, code, line, divides_at_end(alloc, before)?)?,
     };
+    let behind = match fault {
+        Some(fault) => line.get(fault.start..).unwrap_or(b""),
+        None => b"",
+    };
     let (found, place) = match fault {
         Some(fault) => {
             let place = Place {
@@ -252,14 +273,7 @@ pub fn lexical_finding(
         }
         None => (b"".as_slice(), None),
     };
-    let before = match place {
-        Some(place) => text
-            .get(place.start.saturating_sub(1))
-            .copied()
-            .unwrap_or(b' '),
-        None => b' ',
-    };
-    let advice = advice_on(code, found, before, line);
+    let advice = advice_on(code, found, byte_before(text, place), behind);
     let shown = found_text(alloc, found)?;
     let mut finding = Finding::new(alloc, place, &[label.as_bytes(), &shown], advice)?;
     finding.severity = Severity::Error;

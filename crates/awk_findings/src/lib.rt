@@ -2,7 +2,7 @@
 #![tactic(auto)]
 
 mod assignments;
-mod calls;
+pub mod calls;
 mod conditions;
 mod definitions;
 mod finding;
@@ -26,9 +26,11 @@ mod warnings;
 
 pub use assignments::assignment_finding;
 pub use finding::{Finding, Note, Place, Severity};
+pub use formats::{FormatFault, format_fault};
 pub use hints::{find_warnings, name_finding, pattern_finding, plain_finding, syntax_finding};
 pub use letters::add_visible;
 pub use lexical::lexical_finding;
 pub use pieces::{pieces_finding, plain_pieces_finding};
-pub use report::{Source, write_findings};
+pub use report::{Source, source_at, write_findings};
 pub use syntax::{last_open, open_list, syntax_advice};
+pub use text::{Line, Lines};

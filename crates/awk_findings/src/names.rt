@@ -138,7 +138,13 @@ impl<'a> Names<'a> {
         }
         let counts = format!(in alloc; " takes at most {most}, and is given {given}")?;
         let message = [b": ".as_slice(), name, counts.as_bytes()];
-        Ok(Some(finding_at(alloc, token, &message, b"")?))
+        let advice = b"leave the others out, or give the function another parameter";
+        let mut finding = finding_at(alloc, token, &message, advice)?;
+        finding.other = self.tokens.get(definition.name).map(|defined| Note {
+            place: place_of(defined),
+            message: b"it is defined here",
+        });
+        Ok(Some(finding))
     }
 
     /// Why a parameter is refused, whatever the others are.

@@ -118,13 +118,13 @@ fn label_of(severity: Severity) -> &'static [u8] {
     }
 }
 
-impl<'a> Listing<'a> {
-    /// The part of the text that a byte stands in.
-    fn source_at(&self, at: usize) -> Option<&'a Source> {
-        let count = self.sources.partition_point(|source| source.start <= at);
-        self.sources.get(count.saturating_sub(1))
-    }
+/// The part of a text that a byte stands in, of the parts that it is joined of.
+pub fn source_at(sources: &[Source], at: usize) -> Option<&Source> {
+    let count = sources.partition_point(|source| source.start <= at);
+    sources.get(count.saturating_sub(1))
+}
 
+impl<'a> Listing<'a> {
     /// `FILE:LINE:COLUMN: LABEL: MESSAGE`, the line, and below it a caret and tildes.
     fn add_at(
         &self,
@@ -133,7 +133,7 @@ impl<'a> Listing<'a> {
         label: &[u8],
         message: &[u8],
     ) -> Result<(), AllocError> {
-        let Some(source) = self.source_at(place.start) else {
+        let Some(source) = source_at(self.sources, place.start) else {
             return add_note(out, label, message);
         };
         let line = self.lines.line_of(source.start, place.start);

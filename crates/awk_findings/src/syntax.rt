@@ -113,6 +113,14 @@ const NO_DECLARATIONS: &[u8] = b"variables aren't declared: leave the word befor
 
 pub(crate) const REMARKS: &[u8] = b"a remark begins with # and goes to the end of the line";
 
+/// Whether a function is raised or lowered directly before a token.
+fn is_behind_raised(tokens: &[Token], at: usize) -> bool {
+    matches!(
+        (kind_before(tokens, at, 1), kind_before(tokens, at, 2)),
+        (Some(Kind::Increment(_)), Some(Kind::BuiltIn(_)))
+    )
+}
+
 /// What to write instead of a token behind another one.
 fn pair_advice(before: &Kind, kind: &Kind, opened: Opened) -> &'static [u8] {
     match (before, kind) {
@@ -236,6 +244,9 @@ pub fn syntax_advice(tokens: &[Token], at: usize) -> &'static [u8] {
     let Some(kind) = kind_behind(tokens, at, 0) else {
         return b"";
     };
+    if is_behind_raised(tokens, at) {
+        return b"a variable, an element or a field is raised or lowered: this is a function";
+    }
     let opened = opened_before(tokens, at);
     if let Some(before) = kind_before(tokens, at, 1) {
         let advice = pair_advice(before, kind, opened);

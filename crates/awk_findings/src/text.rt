@@ -5,14 +5,14 @@ use std::alloc::{AllocError, Global};
 
 /// Where a byte stands: its line from 1, and the stretch of the text that this line is.
 #[derive(Clone, Copy)]
-pub(crate) struct Line {
-    pub(crate) number: usize,
-    pub(crate) stretch: Place,
+pub struct Line {
+    pub number: usize,
+    pub stretch: Place,
 }
 
 /// The lines of a text.
 #[derive(Drop)]
-pub(crate) struct Lines {
+pub struct Lines {
     /// Where they begin, in order.
     starts: Vec<usize>,
     /// Where the text ends.
@@ -20,7 +20,7 @@ pub(crate) struct Lines {
 }
 
 impl Lines {
-    pub(crate) fn of(alloc: Global, text: &[u8]) -> Result<Lines, AllocError> {
+    pub fn of(alloc: Global, text: &[u8]) -> Result<Lines, AllocError> {
         let mut starts = Vec::new(alloc);
         starts.push(0usize)?;
         for (place, byte) in text.iter().enumerate() {
@@ -43,7 +43,7 @@ impl Lines {
     }
 
     /// The line that the byte at a place is on; lines are counted from a place on.
-    pub(crate) fn line_of(&self, from: usize, at: usize) -> Line {
+    pub fn line_of(&self, from: usize, at: usize) -> Line {
         let count = self.count_to(at);
         let start = self
             .starts
