@@ -9,6 +9,7 @@ use crate::refused::refused_finding;
 use awk_findings::{Finding, find_warnings};
 use awk_lex::lexer::tokens;
 use awk_lex::refusal::Refusal;
+use awk_mistakes::find_mistakes;
 use awk_run::read_program;
 use std::alloc::{AllocError, Global};
 
@@ -28,7 +29,12 @@ fn accepted_findings(
     given: &[Vec<u8>],
 ) -> Result<Vec<Finding>, AllocError> {
     match tokens(alloc, text) {
-        Ok(found) => find_warnings(alloc, text, &found, given),
+        Ok(found) => {
+            let mut all = find_warnings(alloc, text, &found, given)?;
+            let mut mistakes = find_mistakes(alloc, &found)?;
+            all.append(&mut mistakes)?;
+            Ok(all)
+        }
         Err(_) => Err(AllocError),
     }
 }

@@ -1,0 +1,2 @@
+! x ~ "y" { x = 1; print }
+{ if (! $1 ~ /a/) print; if (! ($1 ~ /a/)) print; if ($1 !~ /a/) print; if (! x == 1) print }
