@@ -12,7 +12,7 @@ fn fault<'a>(message: &'static str, word: &'a [u8]) -> Option<UsageFault<'a>> {
 }
 
 /// Whether bytes begin as `name=`.
-fn assigns(value: &[u8]) -> bool {
+pub(crate) fn assigns(value: &[u8]) -> bool {
     let Some(end) = value.iter().position(|byte| *byte == b'=') else {
         return false;
     };
