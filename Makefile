@@ -34,11 +34,16 @@ install: build
 	install -d "$(DESTDIR)$(BINDIR)" "$(DESTDIR)$(MANDIR)/man1" "$(DESTDIR)$(DOCDIR)/examples"
 	install -m 755 out/awk "$(DESTDIR)$(BINDIR)/awk"
 	install -m 755 out/awk-check "$(DESTDIR)$(BINDIR)/awk-check"
-	install -m 644 awk.1 "$(DESTDIR)$(MANDIR)/man1/awk.1"
-	install -m 644 awk-check.1 "$(DESTDIR)$(MANDIR)/man1/awk-check.1"
+	for page in awk.1 awk-check.1; do \
+	    .ci/page $$page >"out/$$page" && install -m 644 "out/$$page" "$(DESTDIR)$(MANDIR)/man1/$$page" || exit 1; \
+	done
+	.ci/origin out/awk-check >out/ORIGIN || :
+	install -m 644 out/ORIGIN "$(DESTDIR)$(DOCDIR)/ORIGIN"
 	install -m 644 docs/LANGUAGE.md docs/SCALE.md "$(DESTDIR)$(DOCDIR)"
 	install -m 644 examples/*.* "$(DESTDIR)$(DOCDIR)/examples"
 	chmod 755 "$(DESTDIR)$(DOCDIR)"/examples/*.sh
+	cp -R contrib "$(DESTDIR)$(DOCDIR)"
+	chmod -R a+rX "$(DESTDIR)$(DOCDIR)/contrib"
 
 uninstall:
 	rm -f "$(DESTDIR)$(BINDIR)/awk" "$(DESTDIR)$(MANDIR)/man1/awk.1"
