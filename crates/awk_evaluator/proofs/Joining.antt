@@ -128,7 +128,7 @@ each_done x count {ws = ws} {m = m} {m' = m'} is a operands calls = record {
 }
 
 -- two operands that are read where they stand
-taken_two : (vs : List Value) (x y : Value) → taken 2 vs ≡ x ∷ (y ∷ []) → (second vs ≡ x) × (first vs ≡ y)
+pub taken_two : (vs : List Value) (x y : Value) → taken 2 vs ≡ x ∷ (y ∷ []) → (second vs ≡ x) × (first vs ≡ y)
 taken_two [] x y e = absurd (cc)
 taken_two (a ∷ []) x y e = absurd (cc)
 taken_two (a ∷ (b ∷ vs)) x y e = (cc, cc)

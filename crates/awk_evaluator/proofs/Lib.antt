@@ -7,6 +7,7 @@ pub mod Parts
 pub mod FieldPrints
 pub mod QuickValues
 pub mod Joining
+pub mod Substituting
 pub mod Quickly
 pub mod QuickMoves
 pub mod CallMoves

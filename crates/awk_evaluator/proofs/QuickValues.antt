@@ -226,3 +226,7 @@ element_raised_puts {m = m} {m' = m'} {o = o} {a = a} {z = z} top h operands cal
   calls = calls;
   changes = λ tables functions. subst (λ (k : Value). Changes (post_increment_at m.runtime.names.scalars o (place.Element a) k) m.runtime m'.runtime (Ok (value.Number z))) top h;
 }
+
+-- a variable that is a place is read as any other
+pub read_loads : {m m' : Machine} {x : Variable} → Puts (v.Read x) m m' → Puts (v.Load (place.Variable x)) m m'
+read_loads p = record { value = p.value; operands = p.operands; calls = p.calls; changes = p.changes }

@@ -1,6 +1,6 @@
 // The value of a node that calls no function of the program.
 
-ghost use Rattle.std.specs.Prelude.{◌≡◌};
+ghost use Rattle.std.specs.Prelude.{◌≡◌, true, false, Ok, Err, IfErr};
 ghost use Rattle.awk_lex.specs.declared.token.Operator.TheVariants.{Matches};
 ghost use Rattle.awk_grammar.specs.declared.tree.BinaryOperator.TheVariants.{Infix};
 ghost use Rattle.awk_runtime.specs.Simulation.{IsReady};
@@ -9,7 +9,8 @@ ghost use Rattle.awk_resolve.specs.declared.node.ValueNode.TheVariants.{Operate,
 ghost use Rattle.awk_resolve.specs.Nodes.{CallsFit};
 ghost use Rattle.awk_resolve.specs.Plans.{array_parameters};
 ghost use Rattle.awk_evaluator.specs.Rest.{IsSound, AtNode};
-ghost use Rattle.awk_evaluator.specs.Moves.{IsStrict, Evaluates, Moves, PutsFound};
+ghost use Rattle.awk_evaluator.specs.Moves.{IsStrict, Computes, Evaluates, Moves, PutsFound};
+ghost use Rattle.awk_evaluator.specs.Quick.{Puts};
 
 use crate::machine::{Machine, Move};
 use crate::moves::function_of;
@@ -18,6 +19,7 @@ use awk_lex::token::Operator;
 use awk_resolve::Plan;
 use awk_resolve::node::{ArgumentForm, ValueNode};
 use awk_semantics::Halt;
+use awk_storage::Place;
 use awk_streams::World;
 use awk_value::Value;
 
@@ -97,6 +99,45 @@ impl Machine {
     /// The same of a value that isn't at hand.
     #[inline(never)]
     fn put_any_value<W: World>(
+        &mut self,
+        world: &mut W,
+        plan: &Plan,
+        node: &ValueNode,
+        next: u32,
+    ) -> Move
+        requires sound { IsSound plan.now }
+        requires strict { IsStrict node.now }
+        requires ready { IsReady W.is_logged (W.state world.old) self.old.runtime.streams }
+        ensures ready { IsReady W.is_logged (W.state world.new) self.new.runtime.streams }
+        ensures moves { Moves W.is_logged plan.now (AtNode (ValueAt node.now next)) self.old (W.state world.old) result self.new (W.state world.new) }
+    {
+        match self.put_by_reading(node) {
+            Ok(true) => Move::On(next),
+            Ok(false) => self.put_evaluated(world, plan, node, next),
+            Err(halt) => self.halt_by(halt),
+        }
+    }
+
+    /// Puts what is made of operands that are read where they stand in their place. `false`, and nothing changes, where that isn't
+    /// done so.
+    #[inline(always)]
+    fn put_by_reading(&mut self, node: &ValueNode) -> Result<bool, Halt>
+        ensures puts { result ≡ Ok true → Puts node.now self.old self.new }
+        ensures kept { result ≡ Ok false → self.new ≡ self.old }
+        ensures ended { IfErr result (λ halt. Computes node.now self.old (Err halt) self.new) }
+    {
+        match node {
+            ValueNode::Load(Place::Variable(variable)) => Ok(self.put_loaded(variable)),
+            ValueNode::Substitute(all, Some(ere), Some(Place::Variable(variable))) => {
+                self.substitute_operands(*all, *ere, *variable)
+            }
+            _ => Ok(false),
+        }
+    }
+
+    /// The same of any value.
+    #[inline(always)]
+    fn put_evaluated<W: World>(
         &mut self,
         world: &mut W,
         plan: &Plan,

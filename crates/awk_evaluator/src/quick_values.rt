@@ -6,7 +6,7 @@ ghost use Rattle.awk_value.specs.declared.value.Value.TheVariants.{Number};
 ghost use Rattle.awk_lex.specs.declared.token.BuiltIn.TheVariants.{Length};
 ghost use Rattle.awk_grammar.specs.declared.tree.BinaryOperator.TheVariants.{Concatenate, Infix};
 ghost use Rattle.awk_grammar.specs.declared.tree.UnaryOperator.TheVariants.{Minus as Negative};
-ghost use Rattle.awk_resolve.specs.declared.node.ValueNode.TheVariants.{Push, Read, Operate, OperateWith, OperateOn, Change, ReadField, ReadFieldAt, ReadElement, Contains, Apply, Assign, PreIncrement, PostIncrement};
+ghost use Rattle.awk_resolve.specs.declared.node.ValueNode.TheVariants.{Push, Read, Operate, OperateWith, OperateOn, Change, ReadField, ReadFieldAt, ReadElement, Contains, Load, Apply, Assign, PreIncrement, PostIncrement};
 ghost use Rattle.awk_storage.specs.Positions.{read_variable};
 ghost use Rattle.awk_runtime.specs.Simulation.{Changes};
 ghost use Rattle.awk_evaluator.specs.Quick.{IsAtHand, Puts, Pushed};
@@ -137,6 +137,15 @@ impl Machine {
         if let Some(n) = self.number_of_variable(variable) {
             return self.put(n);
         }
+        self.put_copy_of(variable)
+    }
+
+    /// Puts the value of a variable that is a place on the stack.
+    #[inline(always)]
+    pub(crate) fn put_loaded(&mut self, variable: &Variable) -> bool
+        ensures puts { result ≡ true → Puts (Load (Place.Variable variable.now)) self.old self.new }
+        ensures kept { result ≡ false → self.new ≡ self.old }
+    {
         self.put_copy_of(variable)
     }
 

@@ -1,9 +1,10 @@
 // The values of functions that search in texts.
 
-ghost use Rattle.std.specs.Prelude.{◌≡◌, ◌∷◌, drop, None as NoneOf, Some as SomeOf};
+ghost use Rattle.std.specs.Prelude.{◌≡◌, ◌∷◌, drop, true, false, None as NoneOf, Some as SomeOf, Ok, Err, IfErr};
 ghost use Rattle.awk_runtime.specs.Simulation.{Changes};
 ghost use Rattle.awk_resolve.specs.Nodes.{Tables, pattern_operands, substitute_by};
 ghost use Rattle.awk_resolve.specs.declared.node.ValueNode.TheVariants.{Match, Split, Substitute};
+ghost use Rattle.awk_evaluator.specs.Quick.{Puts};
 ghost use Rattle.awk_evaluator.specs.Rest.{tables_in};
 ghost use Rattle.awk_evaluator.specs.Moves.{Computes};
 
@@ -12,7 +13,7 @@ use crate::values::operand_count;
 use awk_resolve::node::SplitBy;
 use awk_runtime::PatternSource;
 use awk_semantics::Halt;
-use awk_storage::{Array, Place};
+use awk_storage::{Array, Place, Variable};
 use awk_value::Value;
 
 impl Machine {
@@ -122,6 +123,32 @@ impl Machine {
         }
         let replacement = self.operands.pop();
         self.exchange(all, ere, place, &below, &replacement, &old)
+    }
+
+    /// Exchanges matches of an ERE in the value of a variable, which is the topmost operand, and puts how many that were in the place of
+    /// both operands. They are read where they stand. `false`, and nothing changes, where there aren't two.
+    #[inline(always)]
+    pub(crate) fn substitute_operands(
+        &mut self,
+        all: bool,
+        ere: u32,
+        variable: Variable,
+    ) -> Result<bool, Halt>
+        ensures puts { result ≡ Ok true → Puts (Substitute all (SomeOf ere) (SomeOf (Place.Variable variable))) self.old self.new }
+        ensures kept { result ≡ Ok false → self.new ≡ self.old }
+        ensures ended { IfErr result (λ halt. Computes (Substitute all (SomeOf ere) (SomeOf (Place.Variable variable))) self.old (Err halt) self.new) }
+    {
+        let [replacement, old] = self.operands.newest(2) else {
+            return Ok(false);
+        };
+        let pattern = PatternSource::Ere(ere);
+        let place = Place::Variable(variable);
+        let count = self
+            .runtime
+            .substitute(all, pattern, replacement, place, replacement, old)?;
+        drop(self.operands.pop());
+        self.operands.replace(count);
+        Ok(true)
     }
 
     /// Exchanges matches in a place or in the record. (POSIX awk, String Functions: sub, gsub)
