@@ -14,6 +14,9 @@ enum Quote {
     Remark,
 }
 
+/// How many here-documents without an end are looked for.
+const MOST_ENDLESS: usize = 16;
+
 /// What ends a list of commands.
 #[derive(Clone, Copy, PartialEq, Eq)]
 enum End {
@@ -50,6 +53,8 @@ struct Reader<'a> {
     here: Commands,
     outer: Vec<Commands>,
     documents: Vec<HereDocument>,
+    /// How many here-documents had no end.
+    endless: usize,
     /// Whether a backslash stands before, which takes this byte's meaning.
     is_escaped: bool,
     /// The first byte that isn't gone over yet.
@@ -198,8 +203,12 @@ impl<'a> Reader<'a> {
         let documents = std::mem::replace(&mut self.documents, Vec::new(self.alloc));
         let mut behind = at.saturating_add(1);
         for document in documents.as_slice() {
-            if let Some(end) = end_of_document(self.script, behind, document) {
-                behind = end;
+            if self.endless >= MOST_ENDLESS {
+                continue;
+            }
+            match end_of_document(self.script, behind, document) {
+                Some(end) => behind = end,
+                None => self.endless = self.endless.saturating_add(1),
             }
         }
         self.behind = behind;
@@ -312,6 +321,7 @@ fn programs_of(alloc: Global, script: &[u8]) -> Result<Vec<Embedded>, AllocError
         here: Commands::new(alloc, End::Script, false),
         outer: Vec::new(alloc),
         documents: Vec::new(alloc),
+        endless: 0,
         is_escaped: false,
         behind: 0,
         found: Vec::new(alloc),
