@@ -1,5 +1,5 @@
 -- A field, by the piece that its number asks for.
-use Rattle.std.proofs.Common.{◌≡◌, ◌≢◌, ℕ, zero, suc, ℤ, pos, negsuc, ◌<ℤ◌, ◌+◌, ◌-◌, ◌≤◌, min, List, length, take, drop, get_or, Option, Some, None, Result, Ok, Err, refl, sym, ◌∙◌, ap, subst, arith, inl, inr}
+use Rattle.std.proofs.Common.{◌≡◌, ◌≢◌, ℕ, zero, suc, ℤ, pos, negsuc, ◌<ℤ◌, ◌+◌, ◌-◌, ◌≤◌, min, List, length, take, drop, get_or, Option, Some, None, Result, Ok, Err, Bor, refl, sym, ◌∙◌, ap, subst, arith, inl, inr}
 use Rattle.std.specs.Prelude.{slice_get, unwrap_or, IfSome, IfOk, IfErr}
 use Rattle.std.specs.Option.{option_map}
 use Rattle.std.proofs.lemmas.Bool.{cases_lt}
@@ -15,6 +15,9 @@ use Rattle.awk_value.specs.declared.value.Value.TheVariants.{Nothing, Input}
 use Rattle.awk_record.specs.declared.record_fault.RecordFault.{RecordFault}
 use Rattle.awk_record.specs.declared.record_fault.RecordFault.TheVariants.{Memory}
 use Rattle.awk_record.specs.definitions.Record.{RecordPair, inputs_of, split_by, field_of}
+use Rattle.awk_record.specs.support.Viewed.{pair_of}
+use Rattle.awk_record.specs.declared.record.Form.{Form}
+use Rattle.awk_record.specs.declared.record.Form.TheVariants.{Split, Assigned, Joined}
 
 -- the index of the field of this number, or the greatest number there is
 abbrev pub IsIndexOf : (most : ℕ) (number : ℤ) (index : ℕ) → Type 0
@@ -81,3 +84,18 @@ stretch_found r rule text seen most number index found span view same low at is 
     let value : Input (stretch_at r.text span) ≡ unwrap_or (slice_get r.fields index) Nothing =
     ap (λ (p : RecordPair). Input (stretch_at p.text span)) (sym view) ∙ ap (λ (o : Option Value). unwrap_or o Nothing) (sym field) in
     sym (field_asked r most number index (Ok (Input (stretch_at r.text span))) low at value (λ last. let bad : Some span ≡ None = sym is ∙ none last in cc) tt (λ bad. cc))
+
+-- the fields that are kept as values
+pub kept_values : (form : Form) (text : List ℕ) (rule : Rule) (between : List ℕ) (values : List Value) → form ≢ Split → (pair_of form text rule between values).fields ≡ values
+kept_values Split text rule between values other = absurd (other refl)
+kept_values Assigned text rule between values other = refl
+kept_values Joined text rule between values other = refl
+
+-- the field whose value was found
+pub field_kept : (r : RecordPair) (values : List Value) (most : ℕ) (number : ℤ) (index : ℕ) (found : Option (Bor Value)) → r.fields ≡ values → pos 0 <ℤ number → IsIndexOf most number index →
+    IfSome found (λ v. slice_get values index ≡ Some v.now) → (index ≡ most → slice_get values index ≡ None) → IfSome found (λ v. field_of r number ≡ Ok v.now)
+field_kept r values most number index None same low at is none = tt
+field_kept r values most number index (Some v) same low at is none =
+    let field : slice_get r.fields index ≡ Some v.now = ap (λ (vs : List Value). slice_get vs index) same ∙ is in
+    sym (field_asked r most number index (Ok v.now) low at (ap (λ (o : Option Value). unwrap_or o Nothing) (sym field))
+    (λ last. ap (λ (vs : List Value). slice_get vs index) same ∙ none last) tt (λ bad. cc))

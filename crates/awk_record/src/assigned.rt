@@ -71,8 +71,9 @@ pub fn set_value(values: &mut Vec<Value>, number: usize, value: Value) -> Result
     ensures err { OnErr result (values.new.items ≡ values.old.items) }
     ensures memory { IfErr result (λ e. e ≡ RecordFault.Memory) }
 {
-    let count = number.max(values.len());
-    resize(values, count)?;
+    if number > values.len() {
+        resize(values, number)?;
+    }
     values[number - 1] = value;
     Ok(())
 }

@@ -174,6 +174,7 @@ impl Fields {
 
     /// Fills `values` with all of them, which share the text's memory. The only
     /// error is `Memory`.
+    #[inline(never)]
     pub fn all(&mut self, text: &Bytes, values: &mut Vec<Value>) -> Result<(), RecordFault>
         requires { AreFieldsOf text.now self.old }
         ensures fields { AreFieldsOf text.now self.new }

@@ -1,6 +1,6 @@
 // The record at hand, with its fields.
 ghost use Rattle.std.specs.Prelude.{◌≡◌, ◌≢◌, ℕ, true, false, suc, pos, ◌<ℤ◌, ◌≤ℤ◌, min, [], length, slice_get};
-ghost use Rattle.std.specs.Prelude.{unwrap_or, IfSome, OnOk, OnErr, IfOk, IfErr, Ok, Err, None, List};
+ghost use Rattle.std.specs.Prelude.{unwrap_or, IfSome, OnOk, OnErr, IfOk, IfErr, Ok, Err, Some, None, List};
 ghost use Rattle.std.specs.Result.{is_err};
 ghost use Rattle.awk_text.specs.Separators.{separator_of};
 ghost use Rattle.awk_text.specs.Pieces.{stretch_at, IsSpanOf};
@@ -47,6 +47,15 @@ fn cut_at(text: &Bytes, fields: &mut Fields, index: usize) -> Result<Value, Reco
     }
 }
 
+// The value at an index, if there is one.
+#[inline(always)]
+fn kept_at(values: &[Value], index: usize) -> Option<&Value>
+    ensures value { IfSome result (λ value. slice_get values.now index ≡ Some value.now) }
+    ensures none { index ≡ usize.MAX → slice_get values.now index ≡ None }
+{
+    values.get(index)
+}
+
 // A copy of the value at an index.
 fn value_at(values: &[Value], index: usize) -> Result<Value, RecordFault>
     ensures value { IfOk result (λ value. value ≡ unwrap_or (slice_get values.now index) Value.Nothing) }
@@ -78,6 +87,7 @@ enum Form {
 }
 
 // Has `values` hold the fields of a record that stands in this form.
+#[inline(always)]
 fn take_values(
     form: Form,
     text: &Bytes,
@@ -112,6 +122,8 @@ pub struct Record {
     // the fields and what stands between them, where they were assigned
     values: Vec<Value>,
     output_separator: Bytes,
+    // whether the fields were lent since in place of the text
+    lent: bool,
     joins: u64,
 }
 
@@ -146,6 +158,7 @@ impl Record {
             text,
             fields: Fields::new(alloc, blanks(alloc)?),
             values: Vec::new(alloc),
+            lent: false,
             joins: 0,
         })
     }
@@ -205,6 +218,42 @@ impl Record {
             Form::Assigned => None,
             Form::Split | Form::Joined => Some(&self.text),
         }
+    }
+
+    /// Whether the fields may be written in place of a text that is still to be made of them: once. Who asks again has the text
+    /// made, so that what is written often is made once.
+    #[inline(always)]
+    pub fn lend_once(&mut self) -> bool
+        ensures same { self.new ≡ self.old }
+    {
+        let first = !self.lent;
+        self.lent = true;
+        first
+    }
+
+    /// The fields and what stands between them in the text, where that is still to be made of them.
+    #[inline(always)]
+    pub fn unjoined(&self) -> Option<(&[Value], &[u8])>
+        ensures { IfSome result (λ parts. joined parts.1.now parts.0.now ≡ self.now.text) }
+    {
+        match self.form {
+            Form::Assigned => Some((self.values.as_slice(), self.output_separator.as_slice())),
+            Form::Split | Form::Joined => None,
+        }
+    }
+
+    /// The field of this number from 1 on, where it is kept as a value.
+    #[inline(always)]
+    pub fn kept_field(&self, number: i128) -> Option<&Value>
+        ensures { IfSome result (λ value. field_of self.now number ≡ Ok value.now) }
+    {
+        if let Form::Split = self.form {
+            return None;
+        }
+        if number <= 0 {
+            return None;
+        }
+        kept_at(self.values.as_slice(), index_of(number))
     }
 
     /// How many fields the record has, where that is known without a search.
@@ -347,6 +396,7 @@ impl Record {
         set_value(&mut self.values, number, value)?;
         self.output_separator = separator;
         self.form = Form::Assigned;
+        self.lent = false;
         Ok(())
     }
 
@@ -366,6 +416,7 @@ impl Record {
         resize(&mut self.values, count)?;
         self.output_separator = separator;
         self.form = Form::Assigned;
+        self.lent = false;
         Ok(())
     }
 
