@@ -1,8 +1,8 @@
 -- The moves of nodes whose operands are read where they stand.
 use Rattle.std.specs.Prelude.{◌<◌, if◌then◌else◌}
+use Rattle.std.specs.Global.{Vec}
 use Rattle.std.proofs.Common.{◌≡◌, ℕ, Bool, List, drop, Option, Some, None, Result, Ok, Err, refl, sym, ap, ◌∙◌, subst}
 use Rattle.awk_value.specs.declared.value.Value.{Value}
-use Rattle.awk_value.specs.declared.value.Value.TheVariants as value
 use Rattle.awk_value.specs.Values.{truth_of}
 use Rattle.awk_lex.specs.declared.token.AssignmentOperator.{AssignmentOperator}
 use Rattle.awk_lex.specs.declared.token.IncrementOperator.{IncrementOperator}
@@ -13,7 +13,6 @@ use Rattle.awk_kinds.specs.Kinds.{Definition}
 use Rattle.awk_semantics.specs.declared.halt.Halt.{Halt}
 use Rattle.awk_semantics.specs.State.{Run, ◌>>=◌}
 use Rattle.awk_semantics.specs.Primitives.{is_inside}
-use Rattle.awk_semantics.specs.Operators.{operator_of}
 use Rattle.awk_semantics.specs.Semantics.{choose}
 use Rattle.awk_semantics.specs.Calls.{functions_within}
 use Rattle.awk_storage.specs.declared.position.Variable.{Variable}
@@ -23,19 +22,21 @@ use Rattle.awk_storage.specs.Positions.{assign_at, assign_by_at}
 use Rattle.awk_resolve.specs.declared.node.Operand.{Operand}
 use Rattle.awk_resolve.specs.declared.node.Node.{Node}
 use Rattle.awk_resolve.specs.declared.node.Node.TheVariants as n
+use Rattle.awk_resolve.specs.declared.node.Target.{Target}
 use Rattle.awk_resolve.specs.declared.node.ValueNode.{ValueNode}
 use Rattle.awk_resolve.specs.declared.node.ValueNode.TheVariants as v
 use Rattle.awk_resolve.specs.declared.plan.Plan.{Plan}
-use Rattle.awk_resolve.specs.Nodes.{Tables, first, second, taken, value_of, popped, assign_variable, append_to, print_field, update, increment, AreBelow}
+use Rattle.awk_resolve.specs.Nodes.{Tables, taken, value_of, popped, append_to, append_by_step, print_operands, update, increment, AreBelow}
 use Rattle.awk_runtime.specs.Simulation.{IsReady, Changes}
 use Rattle.awk_runtime.proofs.Composition.{change_simulates}
 use Rattle.awk_evaluator.specs.declared.machine.Machine.{Machine}
 use Rattle.awk_evaluator.specs.declared.machine.Move.TheVariants as move
 use Rattle.awk_evaluator.specs.Operands.{OperandsView}
 use Rattle.awk_evaluator.specs.Rest.{tables_in, Bound, AtNode, cont, begun}
+use Rattle.awk_evaluator.specs.Appending.{SpendsAndAppends}
 use Rattle.awk_evaluator.specs.Moves.{seen_of, Ends, Moves, Computes}
-use Rattle.awk_evaluator.specs.Reading.{ComparesBy, Compares, Updates, Increments, Appends, PrintsField}
-use Rattle.awk_evaluator.proofs.Moving.{no_tables, no_functions, leads_on, ends_on, chosen_below, chosen_cont, ready_computed}
+use Rattle.awk_evaluator.specs.Reading.{ComparesBy, Compares, Updates, Increments, Appends, PrintsOperands}
+use Rattle.awk_evaluator.proofs.Moving.{leads_on, ends_on, chosen_below, chosen_cont, ready_computed}
 
 -- a variable has no operand
 pub variable_alike : (names : List (List ℕ)) (o : Option Operator) (x : Variable) (operand operand' w : Value) → assign_by_at names o (place.Variable x) operand w ≡ assign_by_at names o (place.Variable x) operand' w
@@ -92,12 +93,12 @@ module _ {is_logged : Type 0} {plan : Plan} where
     pub compared_ends : {left : Operand} {h : Halt} → Computes (v.OperateOn o left right) m (Err h) m' → Ends is_logged plan (AtNode (n.Compare o left right here other)) m k (Err h) m' k
     compared_ends {left = left} c = tested_ends {node = n.Compare o left right here other} (λ p low. low) (λ tables ds b vs. refl) c
 
-  module _ {ere here other : ℕ} {m m' : Machine} {k : WorldState} where
-    pub matched_on : {t : Bool} {i : ℕ} {w : Value} → i ≡ (if t then here else other) → truth_of w ≡ t → Computes (v.RecordMatches ere) m (Ok w) m' → Moves is_logged plan (AtNode (n.MatchRecord ere here other)) m k (move.On i) m' k
-    matched_on at e c = tested_on {node = n.MatchRecord ere here other} (λ p low. low) (λ tables ds b vs. refl) at e c
+  module _ {a : Operand} {ere here other : ℕ} {m m' : Machine} {k : WorldState} where
+    pub matched_on : {t : Bool} {i : ℕ} {w : Value} → i ≡ (if t then here else other) → truth_of w ≡ t → Computes (v.Matches a ere) m (Ok w) m' → Moves is_logged plan (AtNode (n.Match a ere here other)) m k (move.On i) m' k
+    matched_on at e c = tested_on {node = n.Match a ere here other} (λ p low. low) (λ tables ds b vs. refl) at e c
 
-    pub matched_ends : {h : Halt} → Computes (v.RecordMatches ere) m (Err h) m' → Ends is_logged plan (AtNode (n.MatchRecord ere here other)) m k (Err h) m' k
-    matched_ends c = tested_ends {node = n.MatchRecord ere here other} (λ p low. low) (λ tables ds b vs. refl) c
+    pub matched_ends : {h : Halt} → Computes (v.Matches a ere) m (Err h) m' → Ends is_logged plan (AtNode (n.Match a ere here other)) m k (Err h) m' k
+    matched_ends c = tested_ends {node = n.Match a ere here other} (λ p low. low) (λ tables ds b vs. refl) c
 
   -- a test of a range, by its number
 
@@ -144,6 +145,13 @@ module _ {is_logged : Type 0} {plan : Plan} where
 
     pub increment_ends : {o : IncrementOperator} {h : Halt} → Increments o variable m (Err h) m' → Ends is_logged plan (AtNode (n.Increment o variable i)) m k (Err h) m' k
     increment_ends {o = o} u = ran_ends {node = n.Increment o variable i} (λ tables. increment tables.names o variable) (λ at low. low) (λ tables ds b vs. refl) (λ tables. u.changes)
+
+  module _ {i : ℕ} {m m' : Machine} {k : WorldState} where
+    pub append_operands_on : {t : Target} {list : Vec Operand} {w : Value} → SpendsAndAppends t list.items m (Ok w) m' → Moves is_logged plan (AtNode (n.AppendOperands t list i)) m k (move.On i) m' k
+    append_operands_on {t = t} {list = list} u = ran_on (λ tables. append_by_step tables.names t list.items) (λ at low. low) (λ tables ds b vs. refl) u.operands u.calls (λ tables. u.changes)
+
+    pub append_operands_ends : {t : Target} {list : Vec Operand} {h : Halt} → SpendsAndAppends t list.items m (Err h) m' → Ends is_logged plan (AtNode (n.AppendOperands t list i)) m k (Err h) m' k
+    append_operands_ends {t = t} {list = list} u = ran_ends {node = n.AppendOperands t list i} (λ tables. append_by_step tables.names t list.items) (λ at low. low) (λ tables ds b vs. refl) (λ tables. u.changes)
 
   -- a node whose value is of no use
 
@@ -196,20 +204,20 @@ module _ {is_logged : Type 0} {plan : Plan} where
     pub append_ends : {h : Halt} → Appends x count m (Err h) m' → Ends is_logged plan (AtNode (n.AppendTo x count i)) m k (Err h) m' k
     append_ends c = ends_on (λ tables functions. append_to tables.names x (taken count m.operands.values)) (λ tables ds b _. cont tables ds plan b i (drop count m.operands.values)) (λ tables ds b. refl) (λ tables functions. change_simulates c.changes)
 
-  -- a field that is printed
+  -- operands that are printed
 
-  module _ {a : Operand} {i : ℕ} {m m' : Machine} {k k' : WorldState} where
-    pub print_on : PrintsField is_logged a m k (Ok tt) m' k' → Moves is_logged plan (AtNode (n.PrintField a i)) m k (move.On i) m' k'
+  module _ {list : Vec Operand} {i : ℕ} {m m' : Machine} {k k' : WorldState} where
+    pub print_on : PrintsOperands is_logged list.items m k (Ok tt) m' k' → Moves is_logged plan (AtNode (n.Print list i)) m k (move.On i) m' k'
     print_on c = record {
       moves = record {
         less = λ at low. low;
         calls = c.calls;
-        leads = leads_on (λ tables functions. print_field tables.names a) (λ tables ds b _. cont tables ds plan b i m.operands.values) (λ tables ds b. refl)
+        leads = leads_on (λ tables functions. print_operands tables.names list.items) (λ tables ds b _. cont tables ds plan b i m.operands.values) (λ tables ds b. refl)
             (λ tables functions. c.simulates)
             (λ tables ds b. ap (λ (s : OperandsView). cont tables ds plan b i s.values) (sym c.operands))
             (ap (λ es. seen_of m'.operands es) c.calls ∙ ap (λ (s : OperandsView). seen_of s m.calls) c.operands);
       };
     }
 
-    pub print_ends : {h : Halt} → PrintsField is_logged a m k (Err h) m' k' → Ends is_logged plan (AtNode (n.PrintField a i)) m k (Err h) m' k'
-    print_ends c = ends_on (λ tables functions. print_field tables.names a) (λ tables ds b _. cont tables ds plan b i m.operands.values) (λ tables ds b. refl) (λ tables functions. c.simulates)
+    pub print_ends : {h : Halt} → PrintsOperands is_logged list.items m k (Err h) m' k' → Ends is_logged plan (AtNode (n.Print list i)) m k (Err h) m' k'
+    print_ends c = ends_on (λ tables functions. print_operands tables.names list.items) (λ tables ds b _. cont tables ds plan b i m.operands.values) (λ tables ds b. refl) (λ tables functions. c.simulates)

@@ -1,5 +1,5 @@
 -- What is done with operands that are read where they stand, in any way.
-use Rattle.std.proofs.Common.{◌≡◌, ◌<◌, ◌≤◌, ℕ, get_or, arith, List, [], ◌∷◌, ◌++◌, length, map, drop, None, Result, Ok, Err, refl, sym, ap, ◌∙◌, subst}
+use Rattle.std.proofs.Common.{◌≡◌, ◌<◌, ◌≤◌, ℕ, pos, get_or, arith, List, [], ◌∷◌, ◌++◌, length, map, drop, None, Result, Ok, Err, refl, sym, ap, ◌∙◌, subst}
 use Rattle.std.specs.List.{concat}
 use Rattle.awk_lex.specs.declared.token.AssignmentOperator.{AssignmentOperator}
 use Rattle.awk_lex.specs.declared.token.Operator.TheVariants.{Matches}
@@ -11,15 +11,19 @@ use Rattle.awk_value.specs.Values.{str_of}
 use Rattle.awk_semantics.specs.declared.halt.Halt.{Halt}
 use Rattle.awk_semantics.specs.State.{State, Run, ◌>>=◌, go_on, lift}
 use Rattle.awk_semantics.specs.Operators.{applied}
+use Rattle.awk_semantics.specs.Primitives.{read_field, record_text}
 use Rattle.awk_storage.specs.declared.position.Variable.{Variable}
 use Rattle.awk_storage.specs.declared.position.Place.TheVariants as place
-use Rattle.awk_storage.specs.Positions.{read_variable, read_at, assign_by_at}
+use Rattle.awk_storage.specs.Positions.{read_variable, assign_by_at}
 use Rattle.awk_resolve.specs.declared.node.Operand.{Operand}
+use Rattle.awk_resolve.specs.declared.node.Operand.TheVariants as operand
 use Rattle.awk_resolve.specs.declared.node.ValueNode.TheVariants as v
 use Rattle.awk_resolve.specs.Nodes.{first, second, taken, operated, operand_value, assign_variable, append_to}
-use Rattle.awk_resolve.proofs.Calculus.{later_same}
+use Rattle.awk_resolve.proofs.Calculus.{first_same, later_same}
 use Rattle.awk_runtime.specs.declared.runtime.Runtime.{Runtime}
-use Rattle.awk_runtime.specs.Naming.{Naming}
+use Rattle.awk_runtime.specs.Naming.{Naming, ere_at}
+use Rattle.awk_runtime.specs.support.Spelled.{record_tested}
+use Rattle.awk_runtime.specs.support.Updates.{Gives}
 use Rattle.awk_runtime.specs.Appends.{AppendsText, appended}
 use Rattle.awk_runtime.specs.Simulation.{Changes}
 use Rattle.awk_runtime.proofs.Composition.{then_changes, ends_changes, lift_changes}
@@ -27,7 +31,7 @@ use Rattle.awk_runtime.proofs.Steps.{same_changes}
 use Rattle.awk_evaluator.specs.declared.machine.Machine.{Machine}
 use Rattle.awk_evaluator.specs.Operands.{OperandsView}
 use Rattle.awk_evaluator.specs.Moves.{Computes, Done}
-use Rattle.awk_evaluator.specs.Reading.{ReadsOperand, Runs, Appends}
+use Rattle.awk_evaluator.specs.Reading.{ReadsOperand, Runs, AssignsOperand, Appends}
 use Rattle.awk_evaluator.proofs.Computing.{computed, ended}
 
 -- the same run, by the names that are the same
@@ -64,14 +68,28 @@ module _ {o : BinaryOperator} {b : Operand} where
     pub operated_on_none : {m m' : Machine} {h : Halt} → ReadsOperand a m (Err h) m' → Computes (v.OperateOn o a b) m (Err h) m'
     operated_on_none left = ended _ (λ tables functions. ends_changes _ left.changes)
 
--- a field
+-- an operand, as the value of a node
+pub operand_found : {a : Operand} {m m1 : Machine} {r : Result Value Halt} → ReadsOperand a m r m1 → Computes (v.Put a) m r m1
+operand_found {r = r} u = computed r u.operands u.calls (λ tables functions. u.changes)
 
-module _ {a : Operand} {m m1 : Machine} where
-  pub field_read : {m2 : Machine} {x : Value} {r : Result Value Halt} → ReadsOperand a m (Ok x) m1 → m2.operands ≡ m1.operands → m2.calls ≡ m1.calls → Changes (read_at m1.runtime.names.scalars place.Field x) m1.runtime m2.runtime r → Computes (v.ReadFieldAt a) m r m2
-  field_read {r = r} u operands calls read = computed r (operands ∙ u.operands) (calls ∙ u.calls) (λ tables functions. then_changes _ u.changes read)
+-- whether an operand has a match
 
-  pub field_not_read : {h : Halt} → ReadsOperand a m (Err h) m1 → Computes (v.ReadFieldAt a) m (Err h) m1
-  field_not_read u = ended _ (λ tables functions. ends_changes _ u.changes)
+module _ (a : Operand) (ere : ℕ) {m m1 : Machine} where
+  pub operand_matched : {m2 : Machine} {x : Value} {r : Result Value Halt} → ReadsOperand a m (Ok x) m1 → m2.operands ≡ m1.operands → m2.calls ≡ m1.calls → Changes (lift (applied Matches x (value.Text (ere_at m1.runtime.names ere)))) m1.runtime m2.runtime r → Computes (v.Matches a ere) m r m2
+  operand_matched {m2 = m2} {x = x} {r = r} u operands calls matched = computed r (operands ∙ u.operands) (calls ∙ u.calls)
+      (λ tables functions. then_changes _ u.changes (subst (λ (n : Naming). Changes (lift (applied Matches x (value.Text (ere_at n ere)))) m1.runtime m2.runtime r) u.changes.names matched))
+
+  pub operand_not_matched : {h : Halt} → ReadsOperand a m (Err h) m1 → Computes (v.Matches a ere) m (Err h) m1
+  operand_not_matched u = ended _ (λ tables functions. ends_changes _ u.changes)
+
+-- the record is field 0
+record_is : (s : State) → read_field (pos 0) s ≡ record_text s
+unfolding read_field record_text
+record_is s = refl
+
+pub record_matched : (ere : ℕ) {m m' : Machine} (r : Result Value Halt) → m'.operands ≡ m.operands → m'.calls ≡ m.calls → Changes (record_tested (ere_at m.runtime.names ere)) m.runtime m'.runtime r → Computes (v.Matches (operand.Field 0) ere) m r m'
+record_matched ere {m = m} r operands calls tested = computed r operands calls
+    (λ tables functions. same_changes _ _ (λ s holds. first_same (read_field (pos 0)) record_text (λ x. lift (applied Matches x (value.Text (ere_at m.runtime.names ere)))) s (record_is s)) tested)
 
 -- an operand that is assigned to a variable
 
@@ -83,6 +101,12 @@ module _ (x : Variable) (o : AssignmentOperator) (a : Operand) {m m1 : Machine} 
     calls = calls ∙ read.calls;
     changes = then_changes _ read.changes (subst (λ (n : Naming). Changes (assign_variable n.scalars o x w) m1.runtime m2.runtime r) read.changes.names assigned);
   }
+
+  -- where it isn't read again
+  pub given_read : {m2 : Machine} {w : Value} (r : Result (Unit {0}) Halt) → ReadsOperand a m (Ok w) m1 → m2.operands ≡ m1.operands → m2.calls ≡ m1.calls
+      → Gives (assign_variable m1.runtime.names.scalars o x w) m1.runtime r m2.runtime → Done (λ q. AssignsOperand o x a m q m2) r
+  given_read (Ok u) read operands calls g = record { done = (g.gives.0, assigned_read read operands calls g.gives.1) }
+  given_read (Err h) read operands calls g = record { done = assigned_read read operands calls g.gives }
 
   pub not_read : {h : Halt} → ReadsOperand a m (Err h) m1 → Runs (operand_value m.runtime.names.scalars a >>= λ u. assign_variable m.runtime.names.scalars o x u) m (Err h) m1
   not_read read = record { operands = read.operands; calls = read.calls; changes = ends_changes _ read.changes }

@@ -4,8 +4,11 @@ pub mod Moving
 pub mod Changing
 pub mod NodeMoves
 pub mod Parts
-pub mod FieldPrints
+pub mod OperandPrints
+pub mod OperandLines
+pub mod Fields
 pub mod QuickValues
+pub mod AppliedValues
 pub mod Joining
 pub mod Substituting
 pub mod Quickly
@@ -17,3 +20,4 @@ pub mod Arguments
 pub mod CallBegins
 pub mod Computing
 pub mod SoundPlans
+mod Appending

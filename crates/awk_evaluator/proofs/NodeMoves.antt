@@ -1,6 +1,6 @@
 -- What the move of a node comes to, by what its part came to.
-use Rattle.std.proofs.Common.{◌≡◌, ◌≢◌, ◌<◌, ℕ, length, sym, ap, arith, Bool, true, false, Option, Some, None, ◌∷◌, drop, Result, Ok, Err, get_or, slice_get, refl, subst}
-use Rattle.std.specs.Prelude.{if◌then◌else◌}
+use Rattle.std.proofs.Common.{◌≡◌, ◌≢◌, ◌<◌, ℕ, length, sym, ap, arith, Bool, true, false, Option, Some, None, Result, Ok, Err, get_or, slice_get, refl, subst}
+use Rattle.std.specs.Global.{Vec}
 use Rattle.awk_value.specs.declared.value.Value.{Value}
 use Rattle.awk_value.specs.declared.value.Value.TheVariants as value
 use Rattle.awk_lex.specs.declared.token.AssignmentOperator.{AssignmentOperator}
@@ -15,6 +15,7 @@ use Rattle.awk_storage.specs.declared.position.Place.{Place}
 use Rattle.awk_resolve.specs.declared.node.Operand.{Operand}
 use Rattle.awk_resolve.specs.declared.node.Node.{Node}
 use Rattle.awk_resolve.specs.declared.node.Node.TheVariants as n
+use Rattle.awk_resolve.specs.declared.node.Target.{Target}
 use Rattle.awk_resolve.specs.declared.node.ValueNode.{ValueNode}
 use Rattle.awk_resolve.specs.declared.node.ValueNode.TheVariants as v
 use Rattle.awk_resolve.specs.declared.node.EffectNode.{EffectNode}
@@ -28,11 +29,12 @@ use Rattle.awk_evaluator.specs.declared.machine.Machine.{Machine}
 use Rattle.awk_evaluator.specs.declared.machine.Move.{Move}
 use Rattle.awk_evaluator.specs.declared.machine.Move.TheVariants as move
 use Rattle.awk_evaluator.specs.Rest.{IsSound, PlanStands, tables_in, Start, AtPlace, AtNode}
-use Rattle.awk_evaluator.specs.Moves.{RestOf, Leads, Ends, Upward, Backward, Finishes, MovesBy, Moves, TurnsBy, Turns, StepsBy, Steps, Computes, Evaluates, Performs, GivesBack, PutsFoundBy, PutsFound, Done, came, told, onward, upward, toward}
-use Rattle.awk_evaluator.specs.Reading.{Runs, Compares, Updates, Increments, Appends, PrintsField}
+use Rattle.awk_evaluator.specs.Moves.{RestOf, Leads, Ends, Upward, Finishes, Moves, Turns, Steps, Computes, Evaluates, Performs, GivesBack, PutsFoundBy, PutsFound, Done, came, told, onward, upward, toward}
+use Rattle.awk_evaluator.specs.Reading.{Runs, Compares, Updates, Increments, Appends, PrintsOperands}
+use Rattle.awk_evaluator.specs.Appending.{Leaves, SpendsAndAppends}
 use Rattle.awk_evaluator.specs.Walks.{PutsKeys, TakesKey}
 use Rattle.awk_evaluator.proofs.Moving.{by_place, past_end, halts, ready_computed, led_on, led_ends, value_on, value_memory, effect_on, effect_ends, again_on, again_stuck, key_on, key_stuck, walk_on, walk_ends, key_taken, key_ends}
-use Rattle.awk_evaluator.proofs.Changing.{with_on, with_ends, compared_on, compared_ends, matched_on, matched_ends, assign_on, assign_ends, raise_on, raise_ends, append_on, append_ends, print_on, print_ends, update_on, update_ends, increment_on, increment_ends}
+use Rattle.awk_evaluator.proofs.Changing.{with_on, with_ends, compared_on, compared_ends, matched_on, matched_ends, assign_on, assign_ends, raise_on, raise_ends, append_on, append_ends, append_operands_on, append_operands_ends, print_on, print_ends, update_on, update_ends, increment_on, increment_ends}
 
 module _ {is_logged : Type 0} {plan : Plan} {m m' : Machine} {k k' : WorldState} {i : ℕ} where
   -- a part that gives a value of no use
@@ -44,7 +46,7 @@ module _ {is_logged : Type 0} {plan : Plan} {m m' : Machine} {k k' : WorldState}
   effect_moves true e = effect_on e
   effect_moves false e = record { moves = effect_ends e }
 
-  pub print_moves : {a : Operand} (done : Bool) → PrintsField is_logged a m k (came done m') m' k' → Moves is_logged plan (AtNode (n.PrintField a i)) m k (onward done i) m' k'
+  pub print_moves : {list : Vec Operand} (done : Bool) → PrintsOperands is_logged list.items m k (came done m') m' k' → Moves is_logged plan (AtNode (n.Print list i)) m k (onward done i) m' k'
   print_moves true e = print_on e
   print_moves false e = record { moves = print_ends e }
 
@@ -75,6 +77,9 @@ module _ {is_logged : Type 0} {plan : Plan} {m m' : Machine} {k : WorldState} {i
   pub append_moves : {x : Variable} {count : ℕ} (done : Bool) → Done (λ r. Appends x count m r m') (came done m') → Moves is_logged plan (AtNode (n.AppendTo x count i)) m k (onward done i) m' k
   append_moves done d = behind done d (λ w u. append_on u) (λ h u. append_ends u)
 
+  pub append_operands_moves : {t : Target} {list : Vec Operand} (done : Bool) → Done (λ r. SpendsAndAppends t list.items m r m') (came done m') → Moves is_logged plan (AtNode (n.AppendOperands t list i)) m k (onward done i) m' k
+  append_operands_moves done d = behind done d (λ w u. append_operands_on u) (λ h u. append_operands_ends u)
+
   pub walk_moves : {a : Array} (done : Bool) → PutsKeys a m (came done m') m' → Moves is_logged plan (AtNode (n.Walk a i)) m k (onward done i) m' k
   walk_moves true p = walk_on p
   walk_moves false p = record { moves = walk_ends p }
@@ -104,7 +109,7 @@ module _ {is_logged : Type 0} {plan : Plan} {m m' : Machine} {k : WorldState} {h
   compare_with_moves (Some t) c = with_on refl c.compares.1 c.compares.2
   compare_with_moves None c = record { moves = with_ends c.compares }
 
-pub match_moves : {is_logged : Type 0} {plan : Plan} {m m' : Machine} {k : WorldState} {ere here other : ℕ} (holds : Option Bool) → Compares (v.RecordMatches ere) m (told holds m') m' → Moves is_logged plan (AtNode (n.MatchRecord ere here other)) m k (toward holds here other) m' k
+pub match_moves : {is_logged : Type 0} {plan : Plan} {m m' : Machine} {k : WorldState} {a : Operand} {ere here other : ℕ} (holds : Option Bool) → Compares (v.Matches a ere) m (told holds m') m' → Moves is_logged plan (AtNode (n.Match a ere here other)) m k (toward holds here other) m' k
 match_moves (Some t) c = matched_on refl c.compares.1 c.compares.2
 match_moves None c = record { moves = matched_ends c.compares }
 
@@ -122,6 +127,10 @@ module _ {is_logged : Type 0} {m m' : Machine} {k : WorldState} where
   pub ready_appended : {x : Variable} {count : ℕ} (done : Bool) → Done (λ r. Appends x count m r m') (came done m') → IsReady is_logged k m.runtime.streams → IsReady is_logged k m'.runtime.streams
   ready_appended true d ready = ready_behind d.done.1.changes ready
   ready_appended false d ready = ready_behind d.done.changes ready
+
+  pub ready_left : {run : Run Value} (done : Bool) → Done (λ r. Leaves run m r m') (came done m') → IsReady is_logged k m.runtime.streams → IsReady is_logged k m'.runtime.streams
+  ready_left true d ready = ready_behind d.done.1.changes ready
+  ready_left false d ready = ready_behind d.done.changes ready
 
   pub ready_put : {a : Array} (done : Bool) → PutsKeys a m (came done m') m' → IsReady is_logged k m.runtime.streams → IsReady is_logged k m'.runtime.streams
   ready_put true p ready = ready_behind p.puts.1 ready

@@ -1,5 +1,5 @@
 -- Parts of moves whose value is of no use, and which may halt the machine.
-use Rattle.std.proofs.Common.{◌≡◌, ℕ, ℤ, Bool, None, drop, Result, Ok, Err, refl, sym, ap, ◌∙◌, subst}
+use Rattle.std.proofs.Common.{◌≡◌, ℕ, ℤ, Bool, None, List, drop, Result, Ok, Err, refl, sym, ap, ◌∙◌, subst}
 use Rattle.awk_value.specs.declared.value.Value.{Value}
 use Rattle.awk_value.specs.declared.value.Value.TheVariants as value
 use Rattle.awk_lex.specs.declared.token.AssignmentOperator.{AssignmentOperator}
@@ -10,6 +10,7 @@ use Rattle.awk_streams.specs.WorldState.{WorldState}
 use Rattle.awk_semantics.specs.declared.halt.Halt.{Halt}
 use Rattle.awk_semantics.specs.Operators.{operator_of, truth_value}
 use Rattle.awk_semantics.specs.State.{Run, ◌>>=◌}
+use Rattle.awk_semantics.specs.Semantics.{Functions}
 use Rattle.awk_storage.specs.declared.position.Array.{Array}
 use Rattle.awk_storage.specs.declared.position.Variable.{Variable}
 use Rattle.awk_storage.specs.declared.position.Place.TheVariants as place
@@ -19,7 +20,7 @@ use Rattle.awk_resolve.specs.declared.node.Operand.{Operand}
 use Rattle.awk_resolve.specs.declared.node.ValueNode.{ValueNode}
 use Rattle.awk_resolve.specs.declared.node.ValueNode.TheVariants as v
 use Rattle.awk_resolve.specs.declared.node.EffectNode.{EffectNode}
-use Rattle.awk_resolve.specs.Nodes.{first, second, taken, value_of, effect_of, operand_value, operated_with, assign_variable, append_to, print_field}
+use Rattle.awk_resolve.specs.Nodes.{Tables, popped, first, second, taken, value_of, effect_of, operand_value, operated_with, assign_variable, append_to, print_operands}
 use Rattle.awk_runtime.specs.declared.runtime.Runtime.{Runtime}
 use Rattle.awk_runtime.specs.Naming.{Naming}
 use Rattle.awk_runtime.specs.Simulation.{Simulates, Changes, Spends}
@@ -28,7 +29,7 @@ use Rattle.awk_runtime.specs.support.Updates.{GivesNumber, Gives}
 use Rattle.awk_evaluator.specs.declared.machine.Machine.{Machine}
 use Rattle.awk_evaluator.specs.Rest.{tables_in}
 use Rattle.awk_evaluator.specs.Moves.{Computes, Performs, Keeps, DoneBy, Done, without_value, truth_in}
-use Rattle.awk_evaluator.specs.Reading.{Runs, AssignsOperand, Raises, ComparesBy, Compares, Updates, Increments, Appends, PrintsField}
+use Rattle.awk_evaluator.specs.Reading.{Runs, AssignsOperand, Raises, ComparesBy, Compares, Updates, Increments, Appends, PrintsOperands}
 use Rattle.awk_evaluator.specs.Walks.{PutsKeysBy, PutsKeys, TakesKey}
 use Rattle.awk_evaluator.specs.Quick.{IsAtHand, Popped, Relates, RelatesWith, AssignsAlike}
 use Rattle.awk_evaluator.proofs.Changing.{variable_alike}
@@ -103,12 +104,20 @@ module _ {m m1 m' : Machine} (kept : Keeps m1 m') where
   pub appends_kept : {x : Variable} {count : ℕ} {r : Result Value Halt} → Appends x count m r m1 → Appends x count m r m'
   appends_kept {r = r} p = appends_by r p
 
-  prints_by : {is_logged : Type 0} {a : Operand} {k k' : WorldState} (r : Result (Unit {0}) Halt) → PrintsField is_logged a m k r m1 k' → PrintsField is_logged a m k (without_value r) m' k'
-  prints_by {is_logged = is_logged} {a = a} {k = k} {k' = k'} (Ok u) p = record { operands = kept.operands ∙ p.operands; calls = kept.calls ∙ p.calls; simulates = subst (λ (y : Runtime). Simulates is_logged m.runtime k y k' (Ok tt) (print_field m.runtime.names.scalars a)) (sym kept.runtime) p.simulates }
-  prints_by {is_logged = is_logged} {a = a} {k = k} {k' = k'} (Err h) p = record { operands = tt; calls = tt; simulates = subst (λ (y : Runtime). Simulates is_logged m.runtime k y k' (Err h) (print_field m.runtime.names.scalars a)) (sym kept.runtime) p.simulates }
+  prints_by : {is_logged : Type 0} {list : List Operand} {k k' : WorldState} (r : Result (Unit {0}) Halt) → PrintsOperands is_logged list m k r m1 k' → PrintsOperands is_logged list m k (without_value r) m' k'
+  prints_by {is_logged = is_logged} {list = list} {k = k} {k' = k'} (Ok u) p = record { operands = kept.operands ∙ p.operands; calls = kept.calls ∙ p.calls; simulates = subst (λ (y : Runtime). Simulates is_logged m.runtime k y k' (Ok tt) (print_operands m.runtime.names.scalars list)) (sym kept.runtime) p.simulates }
+  prints_by {is_logged = is_logged} {list = list} {k = k} {k' = k'} (Err h) p = record { operands = tt; calls = tt; simulates = subst (λ (y : Runtime). Simulates is_logged m.runtime k y k' (Err h) (print_operands m.runtime.names.scalars list)) (sym kept.runtime) p.simulates }
 
-  pub prints_kept : {is_logged : Type 0} {a : Operand} {k k' : WorldState} {r s : Result (Unit {0}) Halt} → s ≡ without_value r → PrintsField is_logged a m k r m1 k' → PrintsField is_logged a m k s m' k'
-  prints_kept {is_logged = is_logged} {a = a} {k = k} {k' = k'} {r = r} is p = subst (λ (q : Result (Unit {0}) Halt). PrintsField is_logged a m k q m' k') (sym is) (prints_by r p)
+  pub prints_kept : {is_logged : Type 0} {list : List Operand} {k k' : WorldState} {r s : Result (Unit {0}) Halt} → s ≡ without_value r → PrintsOperands is_logged list m k r m1 k' → PrintsOperands is_logged list m k s m' k'
+  prints_kept {is_logged = is_logged} {list = list} {k = k} {k' = k'} {r = r} is p = subst (λ (q : Result (Unit {0}) Halt). PrintsOperands is_logged list m k q m' k') (sym is) (prints_by r p)
+
+  -- a part whose value is let go already
+  pub done_kept : {run : Run Value} (r : Result (Unit {0}) Halt) {s : Result (Unit {0}) Halt} → s ≡ without_value r → Done (λ q. Runs run m q m1) r → Done (λ q. Runs run m q m') s
+  done_kept {run = run} r is d = subst (λ (s : Result (Unit {0}) Halt). Done (λ q. Runs run m q m') s) (sym is) (by r d)
+    where
+      by : (q : Result (Unit {0}) Halt) → Done (λ q. Runs run m q m1) q → Done (λ q. Runs run m q m') (without_value q)
+      by (Ok u) d = record { done = (d.done.0, runs_kept d.done.1) }
+      by (Err h) d = record { done = runs_kept d.done }
 
 -- tests of what is at hand
 
@@ -165,20 +174,23 @@ element_assigned w {a = a} {m = m} {m' = m'} alike g operands calls = record {
 pub element_raised : {o : IncrementOperator} {a : Array} {m m' : Machine} {w : Value} → Changes (post_increment_at m.runtime.names.scalars o (place.Element a) (first m.operands.values)) m.runtime m'.runtime (Ok w) → m'.operands ≡ record m.operands { values = drop 1 m.operands.values } → m'.calls ≡ m.calls → Done (λ r. Computes (v.PostIncrement o (place.Element a)) m r m') (Ok tt)
 element_raised {w = w} h operands calls = record { done = (w, record { operands = operands; calls = calls; changes = λ tables functions. h }) }
 
--- what became of an element that is given the topmost value
-given_by : {a : Array} {m mid m' : Machine} (r : Result (Unit {0}) Halt) → Keeps mid m' → Gives (assign_by_at m.runtime.names.scalars None (place.Element a) (second m.operands.values) (first m.operands.values)) m.runtime r mid.runtime → mid.operands ≡ record m.operands { values = drop 2 m.operands.values } → mid.calls ≡ m.calls → Done (λ q. Computes (v.Assign assignment.Plain (place.Element a)) m q m') (without_value r)
-given_by {a = a} {m = m} {mid = mid} {m' = m'} (Ok u) kept g operands calls = record {
+-- what became of a place that is given the topmost value
+given_by : (x : ValueNode) {run : Run Value} {m mid m' : Machine} (r : Result (Unit {0}) Halt) → Keeps mid m' → mid.operands ≡ record m.operands { values = drop (popped x) m.operands.values } → mid.calls ≡ m.calls → ((tables : Tables) (functions : Functions) (q : Result Value Halt) → Changes run m.runtime mid.runtime q → Changes (value_of (tables_in m.runtime.names tables) functions x m.operands.values) m.runtime mid.runtime q) → Gives run m.runtime r mid.runtime → Done (λ q. Computes x m q m') (without_value r)
+given_by x {m = m} {mid = mid} {m' = m'} (Ok u) kept operands calls means g = record {
   done = (
     g.gives.0,
-    computes_kept {m = m} {m1 = mid} {m' = m'} kept {x = v.Assign assignment.Plain (place.Element a)} {r = Ok g.gives.0} (record { operands = operands; calls = calls; changes = λ tables functions. g.gives.1 }),
+    computes_kept {m = m} {m1 = mid} {m' = m'} kept {x = x} {r = Ok g.gives.0} (record { operands = operands; calls = calls; changes = λ tables functions. means tables functions (Ok g.gives.0) g.gives.1 }),
   );
 }
-given_by {a = a} {m = m} {mid = mid} {m' = m'} (Err h) kept g operands calls = record {
-  done = computes_kept {m = m} {m1 = mid} {m' = m'} kept {x = v.Assign assignment.Plain (place.Element a)} {r = Err h} (record { operands = tt; calls = tt; changes = λ tables functions. g.gives });
+given_by x {m = m} {mid = mid} {m' = m'} (Err h) kept operands calls means g = record {
+  done = computes_kept {m = m} {m1 = mid} {m' = m'} kept {x = x} {r = Err h} (record { operands = tt; calls = tt; changes = λ tables functions. means tables functions (Err h) g.gives });
 }
 
 pub element_given : {a : Array} {m mid m' : Machine} (r : Result (Unit {0}) Halt) {s : Result (Unit {0}) Halt} → s ≡ without_value r → Keeps mid m' → Gives (assign_by_at m.runtime.names.scalars None (place.Element a) (second m.operands.values) (first m.operands.values)) m.runtime r mid.runtime → mid.operands ≡ record m.operands { values = drop 2 m.operands.values } → mid.calls ≡ m.calls → Done (λ q. Computes (v.Assign assignment.Plain (place.Element a)) m q m') s
-element_given {a = a} {m = m} {mid = mid} {m' = m'} r is kept g operands calls = subst (λ (s : Result (Unit {0}) Halt). Done (λ q. Computes (v.Assign assignment.Plain (place.Element a)) m q m') s) (sym is) (given_by {a = a} {m = m} {mid = mid} {m' = m'} r kept g operands calls)
+element_given {a = a} {m = m} {mid = mid} {m' = m'} r is kept g operands calls = subst (λ (s : Result (Unit {0}) Halt). Done (λ q. Computes (v.Assign assignment.Plain (place.Element a)) m q m') s) (sym is) (given_by (v.Assign assignment.Plain (place.Element a)) {m = m} {mid = mid} {m' = m'} r kept operands calls (λ tables functions q c. c) g)
+
+pub field_given : {m mid m' : Machine} (r : Result (Unit {0}) Halt) {s : Result (Unit {0}) Halt} → s ≡ without_value r → Keeps mid m' → Gives (assign_by_at m.runtime.names.scalars None place.Field (second m.operands.values) (first m.operands.values)) m.runtime r mid.runtime → mid.operands ≡ record m.operands { values = drop 2 m.operands.values } → mid.calls ≡ m.calls → Done (λ q. Computes (v.Assign assignment.Plain place.Field) m q m') s
+field_given {m = m} {mid = mid} {m' = m'} r is kept g operands calls = subst (λ (s : Result (Unit {0}) Halt). Done (λ q. Computes (v.Assign assignment.Plain place.Field) m q m') s) (sym is) (given_by (v.Assign assignment.Plain place.Field) {m = m} {mid = mid} {m' = m'} r kept operands calls (λ tables functions q c. c) g)
 
 -- the same of a variable
 
@@ -203,6 +215,19 @@ variable_by {x = x} {m = m} {mid = mid} {m' = m'} (Err h) kept g operands calls 
 
 pub variable_given : {x : Variable} {m mid m' : Machine} (r : Result (Unit {0}) Halt) {s : Result (Unit {0}) Halt} → s ≡ without_value r → Keeps mid m' → Gives (assign_by_at m.runtime.names.scalars None (place.Variable x) value.Nothing (first m.operands.values)) m.runtime r mid.runtime → mid.operands ≡ record m.operands { values = drop 1 m.operands.values } → mid.calls ≡ m.calls → Done (λ q. Computes (v.Assign assignment.Plain (place.Variable x)) m q m') s
 variable_given {x = x} {m = m} {mid = mid} {m' = m'} r is kept g operands calls = subst (λ (s : Result (Unit {0}) Halt). Done (λ q. Computes (v.Assign assignment.Plain (place.Variable x)) m q m') s) (sym is) (variable_by {x = x} {m = m} {mid = mid} {m' = m'} r kept g operands calls)
+
+-- a value at hand is assigned, by a number that is as good
+pub alike_read : (o : AssignmentOperator) (x : Variable) {a : Operand} {w : Value} (n : ℤ) {m m' : Machine} → IsAtHand a w m → AssignsAlike o w (value.Number n) → GivesNumber (assign_variable m.runtime.names.scalars o x (value.Number n)) m.runtime m'.runtime → m'.operands ≡ m.operands → m'.calls ≡ m.calls → Done (λ r. AssignsOperand o x a m r m') (Ok tt)
+alike_read o x n {m = m} {m' = m'} at alike g operands calls = record {
+  done = (
+    value.Number g.number,
+    record {
+      operands = operands;
+      calls = calls;
+      changes = then_changes _ at.changes (subst (λ (run : Run Value). Changes run m.runtime m'.runtime (Ok (value.Number g.number))) (sym (alike m.runtime.names.scalars (place.Variable x) value.Nothing)) g.changes);
+    },
+  );
+}
 
 -- a number at hand is assigned
 pub number_read : (o : AssignmentOperator) (x : Variable) {a : Operand} {n : ℤ} {m m' : Machine} → IsAtHand a (value.Number n) m → GivesNumber (assign_variable m.runtime.names.scalars o x (value.Number n)) m.runtime m'.runtime → m'.operands ≡ m.operands → m'.calls ≡ m.calls → Done (λ r. AssignsOperand o x a m r m') (Ok tt)

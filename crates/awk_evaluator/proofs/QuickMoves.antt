@@ -1,36 +1,24 @@
 -- The quick moves.
 use Rattle.std.specs.Prelude.{if◌then◌else◌, IfSome}
-use Rattle.std.proofs.Common.{◌≡◌, ℕ, Bool, drop, slice_get, Option, Some, None, Ok, refl, sym, subst}
+use Rattle.std.proofs.Common.{◌≡◌, ℕ, Bool, Option, Some, None, Ok, sym, subst}
 use Rattle.awk_value.specs.declared.value.Value.{Value}
-use Rattle.awk_value.specs.declared.value.Value.TheVariants as value
 use Rattle.awk_value.specs.Values.{truth_of}
-use Rattle.awk_lex.specs.declared.token.AssignmentOperator.{AssignmentOperator}
-use Rattle.awk_lex.specs.declared.token.IncrementOperator.{IncrementOperator}
 use Rattle.awk_lex.specs.declared.token.Operator.{Operator}
 use Rattle.awk_grammar.specs.declared.tree.BinaryOperator.TheVariants.{Infix}
 use Rattle.awk_streams.specs.WorldState.{WorldState}
-use Rattle.awk_semantics.specs.State.{◌>>=◌, ret}
-use Rattle.awk_semantics.specs.Operators.{applied, truth_value, operator_of}
-use Rattle.awk_storage.specs.declared.position.Variable.{Variable}
-use Rattle.awk_storage.specs.declared.position.Place.TheVariants as place
-use Rattle.awk_storage.specs.Positions.{assign_by_at, post_increment_at}
+use Rattle.awk_semantics.specs.Operators.{applied, truth_value}
 use Rattle.awk_resolve.specs.declared.node.Operand.{Operand}
-use Rattle.awk_resolve.specs.declared.node.Node.{Node}
 use Rattle.awk_resolve.specs.declared.node.Node.TheVariants as n
 use Rattle.awk_resolve.specs.declared.node.ValueNode.{ValueNode}
-use Rattle.awk_resolve.specs.declared.node.EffectNode.TheVariants as e
 use Rattle.awk_resolve.specs.declared.plan.Plan.{Plan}
-use Rattle.awk_resolve.specs.Nodes.{first, operand_value, operated_with, update, increment}
-use Rattle.awk_runtime.specs.declared.runtime.Runtime.{Runtime}
-use Rattle.awk_runtime.specs.Naming.{Naming}
-use Rattle.awk_runtime.specs.Simulation.{Simulates, Changes, Spends}
-use Rattle.awk_runtime.proofs.Composition.{then_changes, lift_changes, change_simulates, lift_simulates}
+use Rattle.awk_resolve.specs.Nodes.{first, operated_with}
+use Rattle.awk_runtime.specs.Simulation.{Changes}
+use Rattle.awk_runtime.proofs.Composition.{then_changes, lift_changes}
 use Rattle.awk_evaluator.specs.declared.machine.Machine.{Machine}
 use Rattle.awk_evaluator.specs.declared.machine.Move.TheVariants as move
-use Rattle.awk_evaluator.specs.Rest.{IsSound, AtPlace, AtNode}
+use Rattle.awk_evaluator.specs.Rest.{AtNode}
 use Rattle.awk_evaluator.specs.Moves.{Moves}
 use Rattle.awk_evaluator.specs.Quick.{IsAtHand, Puts, Popped, Relates, RelatesWith}
-use Rattle.awk_evaluator.proofs.Computing.{performed}
 use Rattle.awk_evaluator.proofs.Moving.{no_tables, no_functions, test_on}
 
 -- how values at hand are related

@@ -1,5 +1,5 @@
 -- Values that are put on the stack quickly.
-use Rattle.std.proofs.Common.{◌≡◌, ◌≢◌, ◌<◌, ℕ, ℤ, pos, Bool, true, List, [], ◌∷◌, ◌++◌, drop, length, arith, Option, Some, Result, Ok, Err, refl, sym, ap, ◌∙◌, subst}
+use Rattle.std.proofs.Common.{◌≡◌, ◌≢◌, ◌<◌, ℕ, ℤ, pos, Bool, true, List, [], ◌∷◌, ◌++◌, drop, length, arith, Option, Some, None, Result, Ok, Err, refl, sym, ap, ◌∙◌, subst}
 use Rattle.std.proofs.Math.Path.{fun_ext}
 use Rattle.std.specs.Prelude.{OnOk, IfSome, is_ok}
 use Rattle.std.specs.Result.{result_ok}
@@ -73,8 +73,11 @@ pushed_puts {x = x} {m = m} {m' = m'} {w = w} none changes p = record {
   changes = λ tables functions. subst (λ (r : Runtime). Changes (value_of (tables_in m.runtime.names tables) functions x m.operands.values) m.runtime r (Ok w)) (sym p.runtime) (changes tables functions);
 }
 
-pub pushed_constant : {m m' : Machine} {w : Value} → Pushed w m m' → Puts (v.Push w) m m'
-pushed_constant {m = m} {w = w} p = pushed_puts refl (λ tables functions. lift_changes (Ok w) m.runtime refl) p
+pub operand_puts : {a : Operand} {w : Value} {m m' : Machine} → IsAtHand a w m → Pushed w m m' → Puts (v.Put a) m m'
+operand_puts at p = pushed_puts refl (λ tables functions. at.changes) p
+
+pub pushed_constant : {m m' : Machine} {w : Value} → Pushed w m m' → Puts (v.Put (operand.Constant w)) m m'
+pushed_constant {w = w} p = operand_puts (constant_at_hand w) p
 
 -- in machines that a reading leaves as they were, too
 
@@ -82,10 +85,8 @@ module _ {m between : Machine} (same : between ≡ m) where
   pub operated_on_puts : {m' behind : Machine} {o : Operator} {a b : Operand} {x y w : Value} → behind ≡ between → IsAtHand a x m → IsAtHand b y between → applied o x y ≡ Ok w → Pushed w behind m' → Puts (v.OperateOn (Infix o) a b) m m'
   operated_on_puts {m' = m'} {b = b} {y = y} {w = w} next left right e p = pushed_puts refl (λ tables functions. operated_on_hand _ (subst (λ (n : Machine). IsAtHand b y n) same right) left e) (subst (λ (n : Machine). Pushed w n m') (next ∙ same) p)
 
-  pub field_at_puts : {m' : Machine} {r : Runtime} {a : Operand} (n : ℤ) {w : Value} → IsAtHand a (value.Number n) m → r ≡ between.runtime → Changes (read_field n) between.runtime r (Ok w) → Pushed w between m' → Puts (v.ReadFieldAt a) m m'
-  field_at_puts {m' = m'} n {w = w} number kept h p =
-      let read : Changes (read_field n) m.runtime m.runtime (Ok w) = subst (λ (x : Machine). Changes (read_field n) x.runtime x.runtime (Ok w)) same (subst (λ (r : Runtime). Changes (read_field n) between.runtime r (Ok w)) kept h) in
-      pushed_puts refl (λ tables functions. then_changes _ number.changes (field_of n read)) (subst (λ (x : Machine). Pushed w x m') same p)
+  pub operand_puts_behind : {m' : Machine} {a : Operand} {w : Value} → IsAtHand a w m → Pushed w between m' → Puts (v.Put a) m m'
+  operand_puts_behind {m' = m'} {w = w} at p = operand_puts at (subst (λ (x : Machine). Pushed w x m') same p)
 
   pub operated_with_puts : {m' : Machine} {o : Operator} {b : Operand} {x y w : Value} → first m.operands.values ≡ x → IsAtHand b y m → applied o x y ≡ Ok w → m'.operands ≡ record between.operands { values = w ∷ drop 1 between.operands.values } → m'.calls ≡ between.calls → m'.runtime ≡ between.runtime → Puts (v.OperateWith (Infix o) b) m m'
   operated_with_puts {m' = m'} {o = o} {b = b} {x = x} {w = w} top right e operands calls runtime = record {
@@ -205,6 +206,15 @@ assigned_puts {m = m} {m' = m'} {z = z} a x top h operands calls = record {
   changes = λ tables functions. rw top (subst (λ (run : Run Value). Changes run m.runtime m'.runtime (Ok (value.Number z))) (variable_alike m.runtime.names.scalars (operator_of a) x value.Nothing (second m.operands.values) (value.Number _)) h);
 }
 
+pub field_assigned_puts : {m m' : Machine} {k n : ℤ} → second m.operands.values ≡ value.Number k → first m.operands.values ≡ value.Number n → Changes (assign_by_at m.runtime.names.scalars None place.Field (value.Number k) (value.Number n)) m.runtime m'.runtime (Ok (value.Number n))
+    → m'.operands ≡ record m.operands { values = value.Number n ∷ drop 1 (drop 1 m.operands.values) } → m'.calls ≡ m.calls → Puts (v.Assign assignment.Plain place.Field) m m'
+field_assigned_puts {m = m} {n = n} below top h operands calls = record {
+  value = value.Number n;
+  operands = operands ∙ ap (λ (vs : List Value). record m.operands { values = value.Number n ∷ vs }) (drop_two m.operands.values);
+  calls = calls;
+  changes = λ tables functions. rw (below, top) h;
+}
+
 -- the texts of two operands at hand
 pub joined_puts : {m m' : Machine} {a b : Operand} {x y w : Value} → IsAtHand a x m → IsAtHand b y m → w ≡ value.Text (str_of x ++ str_of y) → Pushed w m m' → Puts (v.OperateOn Concatenate a b) m m'
 joined_puts {m = m} left right is p = pushed_puts refl (λ tables functions. then_changes _ left.changes (then_changes _ right.changes (lift_changes _ m.runtime (ap Ok (sym is))))) p
@@ -228,5 +238,5 @@ element_raised_puts {m = m} {m' = m'} {o = o} {a = a} {z = z} top h operands cal
 }
 
 -- a variable that is a place is read as any other
-pub read_loads : {m m' : Machine} {x : Variable} → Puts (v.Read x) m m' → Puts (v.Load (place.Variable x)) m m'
+pub read_loads : {m m' : Machine} {x : Variable} → Puts (v.Put (operand.Variable x)) m m' → Puts (v.Load (place.Variable x)) m m'
 read_loads p = record { value = p.value; operands = p.operands; calls = p.calls; changes = p.changes }

@@ -1,21 +1,12 @@
 -- What is done with what is at hand.
-use Rattle.std.proofs.Common.{◌≡◌, ℕ, Bool, true, false, ◌∷◌, drop, Ok, refl, sym, ap, ◌∙◌, subst}
-use Rattle.std.specs.Prelude.{if◌then◌else◌}
+use Rattle.std.proofs.Common.{◌≡◌, ℕ, Bool, true, false, ◌∷◌, drop, refl, sym, ap, ◌∙◌}
 use Rattle.awk_value.specs.Values.{truth_of}
-use Rattle.awk_lex.specs.declared.token.AssignmentOperator.{AssignmentOperator}
-use Rattle.awk_lex.specs.declared.token.IncrementOperator.{IncrementOperator}
-use Rattle.awk_lex.specs.declared.token.Operator.{Operator}
-use Rattle.awk_grammar.specs.declared.tree.BinaryOperator.TheVariants.{Infix}
 use Rattle.awk_streams.specs.WorldState.{WorldState}
 use Rattle.awk_semantics.specs.Operators.{truth_value}
-use Rattle.awk_storage.specs.declared.position.Variable.{Variable}
-use Rattle.awk_resolve.specs.declared.node.Operand.{Operand}
 use Rattle.awk_resolve.specs.declared.node.Node.TheVariants as n
 use Rattle.awk_resolve.specs.declared.node.ValueNode.{ValueNode}
 use Rattle.awk_resolve.specs.declared.plan.Plan.{Plan}
-use Rattle.awk_resolve.specs.Nodes.{first, value_of, popped, operated_with, update, increment}
-use Rattle.awk_runtime.specs.declared.runtime.Runtime.{Runtime}
-use Rattle.awk_runtime.specs.Simulation.{Changes}
+use Rattle.awk_resolve.specs.Nodes.{value_of, popped}
 use Rattle.awk_runtime.proofs.Composition.{change_simulates}
 use Rattle.awk_evaluator.specs.declared.machine.Machine.{Machine}
 use Rattle.awk_evaluator.specs.declared.machine.Move.TheVariants as move

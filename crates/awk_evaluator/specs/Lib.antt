@@ -6,3 +6,6 @@ pub use Rattle.awk_evaluator.specs.support.Walks
 pub use Rattle.awk_evaluator.specs.support.Calling
 pub use Rattle.awk_evaluator.specs.support.Reading
 pub use Rattle.awk_evaluator.specs.support.Quick
+pub use Rattle.awk_evaluator.specs.support.Lines
+pub use Rattle.awk_evaluator.specs.support.Applied
+pub use Rattle.awk_evaluator.specs.support.Appending

@@ -6,3 +6,6 @@ pub mod Walks
 pub mod Calling
 pub mod Reading
 pub mod Quick
+pub mod Lines
+pub mod Applied
+pub mod Appending

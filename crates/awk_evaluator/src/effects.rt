@@ -1,10 +1,10 @@
 // What nodes do that give no value: what a node takes is taken off the operands.
 
-ghost use Rattle.std.specs.Prelude.{◌≡◌, None as NoneOf, Some as SomeOf, Ok, true, false};
+ghost use Rattle.std.specs.Prelude.{◌≡◌, None as NoneOf, Some as SomeOf, Ok, true, false, [], ◌∷◌};
 ghost use Rattle.awk_runtime.specs.Simulation.{IsReady};
 ghost use Rattle.awk_resolve.specs.declared.node.EffectNode.TheVariants.{Delete, Print, SetInside, SetStatus};
 ghost use Rattle.awk_evaluator.specs.Moves.{Acts, Performs, came};
-ghost use Rattle.awk_evaluator.specs.Reading.{PrintsField};
+ghost use Rattle.awk_evaluator.specs.Reading.{PutsOperands, PrintsOperands};
 
 use crate::machine::Machine;
 use awk_grammar::tree::{PrintForm, Redirection};
@@ -12,6 +12,7 @@ use awk_resolve::node::{EffectNode, Operand};
 use awk_semantics::Halt;
 use awk_storage::Array;
 use awk_streams::World;
+use awk_value::Value;
 
 impl Machine {
     /// Does what a node does.
@@ -157,42 +158,66 @@ impl Machine {
         Ok(())
     }
 
-    /// Prints the field whose number an operand is as a line to standard output.
+    /// Prints operands as a line to standard output.
     #[inline(never)]
-    pub(crate) fn print_field<W: World>(&mut self, world: &mut W, number: &Operand) -> bool
+    pub(crate) fn print_operands<W: World>(&mut self, world: &mut W, operands: &[Operand]) -> bool
         requires ready { IsReady W.is_logged (W.state world.old) self.old.runtime.streams }
         ensures ready { IsReady W.is_logged (W.state world.new) self.new.runtime.streams }
-        ensures prints { PrintsField W.is_logged number.now self.old (W.state world.old) (came result self.new) self.new (W.state world.new) }
+        ensures prints { PrintsOperands W.is_logged operands.now self.old (W.state world.old) (came result self.new) self.new (W.state world.new) }
     {
-        if self.hold_field(world, number) {
+        if self.hold_at_hand(world, operands) {
             return true;
         }
-        let printed = self.print_any_field(world, number);
+        let printed = self.print_each(world, operands);
         self.is_done(printed)
     }
 
-    /// The same, where the field can be held back as it stands; elsewhere nothing changes.
+    /// The same of one operand, where it is a field that can be held back as it stands; elsewhere nothing changes.
     #[inline(always)]
-    fn hold_field<W: World>(&mut self, world: &W, number: &Operand) -> bool
+    pub(crate) fn hold_field<W: World>(&mut self, world: &W, operand: &Operand) -> bool
         requires ready { IsReady W.is_logged (W.state world.now) self.old.runtime.streams }
         ensures ready { IsReady W.is_logged (W.state world.now) self.new.runtime.streams }
         ensures kept { result ≡ false → self.new ≡ self.old }
-        ensures prints { result ≡ true → PrintsField W.is_logged number.now self.old (W.state world.now) (Ok tt) self.new (W.state world.now) }
+        ensures prints { result ≡ true → PrintsOperands W.is_logged (operand.now ∷ []) self.old (W.state world.now) (Ok tt) self.new (W.state world.now) }
     {
-        let Some(n) = self.number_at(number) else {
+        let Some(n) = self.field_number_of(operand) else {
             return false;
         };
         self.runtime.hold_field(world, n)
     }
 
-    /// The same; an `Err` is what it came to.
-    fn print_any_field<W: World>(&mut self, world: &mut W, number: &Operand) -> Result<(), Halt>
+    /// The same of any operands; an `Err` is what it came to.
+    #[inline(never)]
+    fn print_each<W: World>(&mut self, world: &mut W, operands: &[Operand]) -> Result<(), Halt>
         requires ready { IsReady W.is_logged (W.state world.old) self.old.runtime.streams }
         ensures ready { IsReady W.is_logged (W.state world.new) self.new.runtime.streams }
-        ensures prints { PrintsField W.is_logged number.now self.old (W.state world.old) result self.new (W.state world.new) }
+        ensures prints { PrintsOperands W.is_logged operands.now self.old (W.state world.old) result self.new (W.state world.new) }
     {
-        let value = self.field_at(number)?;
-        self.runtime.print(world, PrintForm::Print, &[value])
+        if operands.is_empty() {
+            return self
+                .runtime
+                .print(world, PrintForm::Print, &[Value::Nothing]);
+        }
+        self.put_operands(operands)?;
+        let values = self.operands.newest(operands.len());
+        if self.runtime.hold_values(world, values) {
+            self.operands.drop(operands.len());
+            return Ok(());
+        }
+        self.runtime.print(world, PrintForm::Print, values)?;
+        self.operands.drop(operands.len());
+        Ok(())
+    }
+
+    /// Puts operands on the stack, in their order.
+    pub(crate) fn put_operands(&mut self, operands: &[Operand]) -> Result<(), Halt>
+        ensures { PutsOperands operands.now self.old result self.new }
+    {
+        for operand in operands {
+            let value = self.read_operand(operand)?;
+            self.operands.push(value)?;
+        }
+        Ok(())
     }
 
     // Prints so many operands to the target whose name is the topmost one.

@@ -179,21 +179,19 @@ impl Machine {
         ensures evaluates { Evaluates W.is_logged node.now self.old (W.state world.old) result self.new (W.state world.new) }
     {
         match node {
-            ValueNode::Push(value) => self.constant(value),
-            ValueNode::Read(variable) => self.variable(*variable),
+            ValueNode::Put(operand) => self.operand(operand),
             ValueNode::Operate(operator) => self.operate(*operator),
             ValueNode::OperateWith(operator, right) => self.operate_with(*operator, right),
             ValueNode::OperateOn(operator, left, right) => self.operate_on(*operator, left, right),
             ValueNode::Change(operator) => self.change(*operator),
             ValueNode::ReadField => self.field(),
-            ValueNode::ReadFieldAt(number) => self.field_at(number),
             ValueNode::ConcatenateAll(count) => self.concatenate_all(*count),
             ValueNode::ReadElement(array) => self.element(*array),
             ValueNode::Assign(operator, place) => self.assign(*operator, *place),
             ValueNode::Append(variable) => self.append(*variable),
             ValueNode::PreIncrement(operator, place) => self.pre_increment(*operator, *place),
             ValueNode::PostIncrement(operator, place) => self.post_increment(*operator, *place),
-            ValueNode::RecordMatches(ere) => self.record_matches(*ere),
+            ValueNode::Matches(operand, ere) => self.matches(operand, *ere),
             ValueNode::MatchesEre(operator, ere) => self.matches_ere(*operator, *ere),
             ValueNode::Contains(array) => self.contains(*array),
             ValueNode::Key(count) => self.key(*count),
@@ -202,6 +200,9 @@ impl Machine {
             ValueNode::RecordLength => self.record_length(),
             ValueNode::CountElements(array) => self.count_elements(*array),
             ValueNode::Apply(function, count) => self.apply_function(*function, *count),
+            ValueNode::ApplyTo(function, operands, count) => {
+                self.apply_to(*function, operands, *count)
+            }
             ValueNode::Match(ere) => self.match_in(*ere),
             ValueNode::Split(array, by) => self.split(*array, *by),
             ValueNode::Substitute(all, ere, place) => self.substitute(*all, *ere, *place),

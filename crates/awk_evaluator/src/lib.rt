@@ -1,16 +1,19 @@
 //! The one evaluator over nodes: from a place of a plan to the end of a run.
 #![tactic(auto)]
 
+mod appends;
 mod beginning;
 pub mod calls;
 mod effects;
 pub mod entry;
 mod evaluate;
+mod function_values;
 mod laws;
 mod machine;
 mod moves;
 pub mod operands;
 mod operations;
+mod prints;
 mod quick;
 mod quick_values;
 mod stream_values;

@@ -21,6 +21,8 @@ pub struct Machine {
     pub runtime: Runtime,
     pub operands: Operands,
     pub calls: Calls,
+    /// The text that an append makes, kept for its room.
+    pub text: Vec<u8>,
     /// Why the run ended, where a move says that it is halted.
     pub halt: Halt,
 }
@@ -51,6 +53,7 @@ impl Machine {
             runtime,
             operands: Operands::new(alloc),
             calls: Calls::new(alloc),
+            text: Vec::new(alloc),
             halt: Halt::Exit,
         }
     }

@@ -98,8 +98,8 @@ impl Machine {
             Node::Compare(operator, left, right, here, other) => {
                 toward(self.compare(*operator, left, right), *here, *other)
             }
-            Node::MatchRecord(ere, here, other) => {
-                toward(self.match_record(*ere), *here, *other)
+            Node::Match(operand, ere, here, other) => {
+                toward(self.match_operand(operand, *ere), *here, *other)
             }
             Node::TestInside(number, here, other) => {
                 let inside = self.runtime.is_inside(*number as usize);
@@ -115,6 +115,9 @@ impl Machine {
             Node::Increment(operator, variable, next) => {
                 onward(self.increment(*operator, variable), *next)
             }
+            Node::AppendOperands(target, parts, next) => {
+                onward(self.append_operands(target, parts), *next)
+            }
             Node::Again(number) => {
                 let head = head_of(plan, *number);
                 upward(self.spend(), head)
@@ -125,7 +128,7 @@ impl Machine {
         }
     }
 
-    /// The move of a node that appends texts, prints a field, walks over keys or ends all calls.
+    /// The move of a node that appends texts, prints operands, walks over keys or ends all calls.
     #[inline(never)]
     fn make_rare_move<W: World>(&mut self, world: &mut W, plan: &Plan, node: &Node) -> Move
         requires rare { IsRare node.now }
@@ -137,7 +140,7 @@ impl Machine {
             Node::AppendTo(variable, count, next) => {
                 onward(self.append_texts(variable, *count), *next)
             }
-            Node::PrintField(number, next) => onward(self.print_field(world, number), *next),
+            Node::Print(operands, next) => onward(self.print_operands(world, operands), *next),
             Node::Walk(array, next) => onward(self.begin_walk(*array), *next),
             Node::NextKey(number, exit) => {
                 if self.has_no_key() {
@@ -156,10 +159,11 @@ impl Machine {
             Node::Exit => self.halt_by(Halt::Exit),
             Node::Value(_, _) | Node::Effect(_, _) | Node::Test(_, _) => unreachable!(),
             Node::CompareWith(_, _, _, _) | Node::Compare(_, _, _, _, _) => unreachable!(),
-            Node::MatchRecord(_, _, _) | Node::TestInside(_, _, _) => unreachable!(),
+            Node::Match(_, _, _, _) | Node::TestInside(_, _, _) => unreachable!(),
             Node::Assign(_, _, _) => unreachable!(),
             Node::Raise(_, _, _) | Node::Update(_, _, _, _) => unreachable!(),
             Node::Increment(_, _, _) | Node::Again(_) => unreachable!(),
+            Node::AppendOperands(_, _, _) => unreachable!(),
             Node::Return | Node::End => unreachable!(),
         }
     }

@@ -6,7 +6,7 @@ ghost use Rattle.awk_value.specs.Values.{truth_of};
 ghost use Rattle.awk_value.specs.declared.value.Value.TheVariants.{Number};
 ghost use Rattle.awk_storage.specs.declared.position.Place.TheVariants.{Element};
 ghost use Rattle.awk_runtime.specs.Simulation.{Spends};
-ghost use Rattle.awk_resolve.specs.declared.node.ValueNode.TheVariants.{Assign, PostIncrement, OperateWith, OperateOn, RecordMatches};
+ghost use Rattle.awk_resolve.specs.declared.node.ValueNode.TheVariants.{Assign, PostIncrement, OperateWith, OperateOn, Matches};
 ghost use Rattle.awk_resolve.specs.Nodes.{first};
 ghost use Rattle.awk_evaluator.specs.Moves.{Computes, Done, came, told};
 ghost use Rattle.awk_evaluator.specs.Reading.{Compares, Updates, Increments, AssignsOperand, Raises};
@@ -19,6 +19,17 @@ use awk_lex::token::{AssignmentOperator, IncrementOperator};
 use awk_resolve::node::Operand;
 use awk_storage::{Array, Place, Variable};
 use awk_value::{Value, is_true, number_of};
+
+/// The number that is as good to assign as a value, where an operator is applied.
+#[inline(always)]
+fn number_alike(operator: AssignmentOperator, value: &Value) -> Option<i128>
+    ensures { IfSome result (λ n. AssignsAlike operator value.now (Number n)) }
+{
+    match operator {
+        AssignmentOperator::Plain => None,
+        _ => number_of(value).ok(),
+    }
+}
 
 impl Machine {
     /// Whether the topmost operand is true, which is taken off.
@@ -93,6 +104,9 @@ impl Machine {
         if let Some(holds) = self.relate_values(operator, left, right) {
             return Some(holds);
         }
+        if let Some(holds) = self.relate_field(operator, left, right) {
+            return Some(holds);
+        }
         let value = self.operate_on(operator, left, right);
         self.truth_of(value)
     }
@@ -111,6 +125,24 @@ impl Machine {
             return None;
         };
         relate(infix, self.value_at(left)?, self.value_at(right)?)
+    }
+
+    /// Whether a field at hand and a value at hand are so related.
+    #[inline(always)]
+    fn relate_field(
+        &mut self,
+        operator: BinaryOperator,
+        left: &Operand,
+        right: &Operand,
+    ) -> Option<bool>
+        ensures some { IfSome result (λ holds. Relates operator left.now right.now holds self.old) }
+        ensures same { self.new ≡ self.old }
+    {
+        let BinaryOperator::Infix(infix) = operator else {
+            return None;
+        };
+        let field = self.field_of(left)?;
+        relate(infix, &field, self.value_at(right)?)
     }
 
     /// Whether what an operator makes of the topmost value, which is taken off, and an operand is true.
@@ -219,8 +251,35 @@ impl Machine {
     ) -> bool
         ensures { Done (λ r. AssignsOperand operator variable.now operand.now self.old r self.new) (came result self.new) }
     {
+        if self.assign_from_field(operator, variable, operand) {
+            return true;
+        }
+        if let AssignmentOperator::Plain = operator {
+            let assigned = self.give_operand(*variable, operand);
+            return self.is_done(assigned);
+        }
         let assigned = self.assign_read(operator, *variable, operand);
         self.is_done(assigned)
+    }
+
+    /// Assigns a field that is at hand to a variable, where an operator is applied, and that changes where it stands.
+    #[inline(always)]
+    fn assign_from_field(
+        &mut self,
+        operator: AssignmentOperator,
+        variable: &Variable,
+        operand: &Operand,
+    ) -> bool
+        ensures assigned { result ≡ true → Done (λ r. AssignsOperand operator variable.now operand.now self.old r self.new) (Ok tt) }
+        ensures kept { result ≡ false → self.new ≡ self.old }
+    {
+        let Some(field) = self.field_of(operand) else {
+            return false;
+        };
+        let Some(n) = number_alike(operator, &field) else {
+            return false;
+        };
+        self.runtime.change_number(operator, variable, n)
     }
 
     /// Spends a step, and raises or lowers a variable's number by 1.
@@ -322,6 +381,9 @@ impl Machine {
             if let Place::Variable(variable) = place {
                 return self.assign_variable(*variable);
             }
+            if let Place::Field = place {
+                return self.assign_field();
+            }
         }
         let assigned = self.assign(operator, *place);
         self.is_done(assigned)
@@ -335,6 +397,19 @@ impl Machine {
         let nothing = Value::Nothing;
         let key = self.operands.top_or(&nothing);
         let assigned = self.runtime.assign_element(array, key, value);
+        drop(nothing);
+        self.operands.drop(1);
+        self.is_done(assigned)
+    }
+
+    /// Assigns the topmost value to a field, which isn't read again.
+    fn assign_field(&mut self) -> bool
+        ensures { Done (λ r. Computes (Assign AssignmentOperator.Plain Place.Field) self.old r self.new) (came result self.new) }
+    {
+        let value = self.operands.pop();
+        let nothing = Value::Nothing;
+        let number = self.operands.top_or(&nothing);
+        let assigned = self.runtime.assign_field(number, value);
         drop(nothing);
         self.operands.drop(1);
         self.is_done(assigned)
@@ -392,10 +467,7 @@ impl Machine {
     fn number_for(&self, operator: AssignmentOperator) -> Option<i128>
         ensures { IfSome result (λ n. AssignsAlike operator (first self.now.operands.values) (Number n)) }
     {
-        match operator {
-            AssignmentOperator::Plain => None,
-            _ => number_of(self.operands.top()?).ok(),
-        }
+        number_alike(operator, self.operands.top()?)
     }
 
     /// Raises or lowers the number of a place by 1, and takes the operand of the place off.
@@ -437,10 +509,22 @@ impl Machine {
         self.is_done(raised)
     }
 
-    /// Whether the record has a match of an ERE of the program.
+    /// Whether an operand has a match of an ERE of the program.
     #[inline(never)]
-    pub(crate) fn match_record(&mut self, ere: u32) -> Option<bool>
-        ensures { Compares (RecordMatches ere) self.old (told result self.new) self.new }
+    pub(crate) fn match_operand(&mut self, operand: &Operand, ere: u32) -> Option<bool>
+        ensures { Compares (Matches operand.now ere) self.old (told result self.new) self.new }
+    {
+        if let Operand::Field(0) = operand {
+            return self.match_record(ere);
+        }
+        let value = self.matches(operand, ere);
+        self.truth_of(value)
+    }
+
+    /// Whether the record has a match of an ERE of the program.
+    #[inline(always)]
+    fn match_record(&mut self, ere: u32) -> Option<bool>
+        ensures { Compares (Matches (Operand.Field 0) ere) self.old (told result self.new) self.new }
     {
         match self.runtime.record_has_match(ere) {
             Ok(holds) => Some(holds),

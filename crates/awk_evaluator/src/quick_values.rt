@@ -6,7 +6,7 @@ ghost use Rattle.awk_value.specs.declared.value.Value.TheVariants.{Number};
 ghost use Rattle.awk_lex.specs.declared.token.BuiltIn.TheVariants.{Length};
 ghost use Rattle.awk_grammar.specs.declared.tree.BinaryOperator.TheVariants.{Concatenate, Infix};
 ghost use Rattle.awk_grammar.specs.declared.tree.UnaryOperator.TheVariants.{Minus as Negative};
-ghost use Rattle.awk_resolve.specs.declared.node.ValueNode.TheVariants.{Push, Read, Operate, OperateWith, OperateOn, Change, ReadField, ReadFieldAt, ReadElement, Contains, Load, Apply, Assign, PreIncrement, PostIncrement};
+ghost use Rattle.awk_resolve.specs.declared.node.ValueNode.TheVariants.{Put, Operate, OperateWith, OperateOn, Change, ReadField, ReadElement, Contains, Load, Apply, Assign, PreIncrement, PostIncrement};
 ghost use Rattle.awk_storage.specs.Positions.{read_variable};
 ghost use Rattle.awk_runtime.specs.Simulation.{Changes};
 ghost use Rattle.awk_evaluator.specs.Quick.{IsAtHand, Puts, Pushed};
@@ -39,8 +39,7 @@ impl Machine {
         ensures kept { result ≡ false → self.new ≡ self.old }
     {
         match node {
-            ValueNode::Push(value) => self.put_constant(value),
-            ValueNode::Read(variable) => self.put_variable(variable),
+            ValueNode::Put(operand) => self.put_operand(operand),
             ValueNode::Operate(BinaryOperator::Infix(operator)) => self.put_operated(*operator),
             ValueNode::OperateWith(BinaryOperator::Infix(operator), right) => {
                 self.put_operated_with(*operator, right)
@@ -53,10 +52,12 @@ impl Machine {
             }
             ValueNode::Change(UnaryOperator::Minus) => self.put_negated(),
             ValueNode::ReadField => self.put_field(),
-            ValueNode::ReadFieldAt(number) => self.put_field_at(number),
             ValueNode::ReadElement(array) => self.put_element(*array),
             ValueNode::Contains(array) => self.put_contains(*array),
             ValueNode::Apply(BuiltIn::Length, count) => self.put_length(*count),
+            ValueNode::ApplyTo(function, operands, count) => {
+                self.put_applied(*function, operands, *count)
+            }
             ValueNode::PostIncrement(operator, Place::Variable(variable)) => {
                 self.put_raised(*operator, variable)
             }
@@ -69,6 +70,7 @@ impl Machine {
             ValueNode::Assign(operator, Place::Variable(variable)) => {
                 self.put_assigned(*operator, variable)
             }
+            ValueNode::Assign(AssignmentOperator::Plain, Place::Field) => self.put_in_field(),
             _ => false,
         }
     }
@@ -104,22 +106,36 @@ impl Machine {
         match operand {
             Operand::Constant(value) => Some(value),
             Operand::Variable(variable) => self.runtime.value_in(*variable),
+            Operand::Field(_) | Operand::FieldAt(_) => None,
         }
     }
 
     /// Puts a number on the stack.
     #[inline(always)]
-    fn put(&mut self, n: i128) -> bool
+    pub(crate) fn put(&mut self, n: i128) -> bool
         ensures pushed { result ≡ true → Pushed (Number n) self.old self.new }
         ensures kept { result ≡ false → self.new ≡ self.old }
     {
         self.operands.push(Value::Number(n)).is_ok()
     }
 
+    /// Puts an operand on the stack.
+    #[inline(always)]
+    fn put_operand(&mut self, operand: &Operand) -> bool
+        ensures puts { result ≡ true → Puts (Put operand.now) self.old self.new }
+        ensures kept { result ≡ false → self.new ≡ self.old }
+    {
+        match operand {
+            Operand::Constant(value) => self.put_constant(value),
+            Operand::Variable(variable) => self.put_variable(variable),
+            Operand::Field(_) | Operand::FieldAt(_) => self.put_field_of(operand),
+        }
+    }
+
     /// Puts a value of the program on the stack.
     #[inline(always)]
     fn put_constant(&mut self, value: &Value) -> bool
-        ensures puts { result ≡ true → Puts (Push value.now) self.old self.new }
+        ensures puts { result ≡ true → Puts (Put (Operand.Constant value.now)) self.old self.new }
         ensures kept { result ≡ false → self.new ≡ self.old }
     {
         if let Value::Number(n) = value {
@@ -131,7 +147,7 @@ impl Machine {
     /// Puts the value of a variable on the stack.
     #[inline(always)]
     fn put_variable(&mut self, variable: &Variable) -> bool
-        ensures puts { result ≡ true → Puts (Read variable.now) self.old self.new }
+        ensures puts { result ≡ true → Puts (Put (Operand.Variable variable.now)) self.old self.new }
         ensures kept { result ≡ false → self.new ≡ self.old }
     {
         if let Some(n) = self.number_of_variable(variable) {
@@ -151,7 +167,7 @@ impl Machine {
 
     /// The number that a variable is, if it is one that is known.
     #[inline(always)]
-    fn number_of_variable(&self, variable: &Variable) -> Option<i128>
+    pub(crate) fn number_of_variable(&self, variable: &Variable) -> Option<i128>
         ensures { IfSome result (λ n. Changes (read_variable self.now.runtime.names.scalars variable.now) self.now.runtime self.now.runtime (Ok (Number n))) }
     {
         match variable {
@@ -165,7 +181,7 @@ impl Machine {
     /// Puts a copy of the value of a variable on the stack.
     #[inline(never)]
     fn put_copy_of(&mut self, variable: &Variable) -> bool
-        ensures puts { result ≡ true → Puts (Read variable.now) self.old self.new }
+        ensures puts { result ≡ true → Puts (Put (Operand.Variable variable.now)) self.old self.new }
         ensures kept { result ≡ false → self.new ≡ self.old }
     {
         if let Some(value) = self.runtime.value_in(*variable) {
@@ -284,16 +300,13 @@ impl Machine {
         true
     }
 
-    /// Puts the field whose number an operand is on the stack.
+    /// Puts an operand that is a field on the stack.
     #[inline(always)]
-    fn put_field_at(&mut self, number: &Operand) -> bool
-        ensures puts { result ≡ true → Puts (ReadFieldAt number.now) self.old self.new }
+    fn put_field_of(&mut self, operand: &Operand) -> bool
+        ensures puts { result ≡ true → Puts (Put operand.now) self.old self.new }
         ensures kept { result ≡ false → self.new ≡ self.old }
     {
-        let Some(n) = self.number_at(number) else {
-            return false;
-        };
-        let Some(value) = self.runtime.field_at_hand(n) else {
+        let Some(value) = self.field_of(operand) else {
             return false;
         };
         self.operands.push(value).is_ok()
@@ -399,6 +412,26 @@ impl Machine {
             return false;
         };
         self.operands.replace_by(z);
+        true
+    }
+
+    /// Assigns the topmost number to the field whose number lies below it, and puts it in the place of both.
+    #[inline(never)]
+    fn put_in_field(&mut self) -> bool
+        ensures puts { result ≡ true → Puts (Assign AssignmentOperator.Plain Place.Field) self.old self.new }
+        ensures kept { result ≡ false → self.new ≡ self.old }
+    {
+        let Some(number) = self.operands.number_below() else {
+            return false;
+        };
+        let Some(n) = self.operands.number() else {
+            return false;
+        };
+        if !self.runtime.put_number_in_field(number, n) {
+            return false;
+        }
+        self.operands.pop();
+        self.operands.replace_by(n);
         true
     }
 

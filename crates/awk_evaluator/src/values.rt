@@ -2,7 +2,7 @@
 
 ghost use Rattle.std.specs.Prelude.{◌≡◌, true, false, Ok, Err, IfErr};
 ghost use Rattle.awk_resolve.specs.Nodes.{operands};
-ghost use Rattle.awk_resolve.specs.declared.node.ValueNode.TheVariants.{Push, Read, RecordMatches, Operate, ConcatenateAll, MatchesEre, Change, ReadField, ReadElement, Contains, Key, FieldNumber, Assign, Append, PreIncrement, PostIncrement, Load, RecordLength, CountElements, Apply};
+ghost use Rattle.awk_resolve.specs.declared.node.ValueNode.TheVariants.{Operate, ConcatenateAll, MatchesEre, Change, ReadField, ReadElement, Contains, Key, FieldNumber, Assign, Append, PreIncrement, PostIncrement, Load, RecordLength, CountElements, Apply};
 ghost use Rattle.awk_evaluator.specs.Moves.{Computes, Done, came};
 ghost use Rattle.awk_evaluator.specs.Reading.{Appends};
 ghost use Rattle.awk_evaluator.specs.Quick.{Puts};
@@ -29,29 +29,6 @@ pub(crate) fn operand_count(place: Place) -> usize
 }
 
 impl Machine {
-    /// A value of the program.
-    #[inline(never)]
-    pub(crate) fn constant(&mut self, value: &Value) -> Result<Value, Halt>
-        ensures { Computes (Push value.now) self.old result self.new }
-    {
-        Ok(value.clone()?)
-    }
-
-    /// The value of a variable.
-    #[inline(never)]
-    pub(crate) fn variable(&mut self, variable: Variable) -> Result<Value, Halt>
-        ensures { Computes (Read variable) self.old result self.new }
-    {
-        self.runtime.read_variable(variable)
-    }
-
-    /// Whether the record has a match of an ERE of the program.
-    pub(crate) fn record_matches(&mut self, ere: u32) -> Result<Value, Halt>
-        ensures { Computes (RecordMatches ere) self.old result self.new }
-    {
-        self.runtime.record_matches(ere)
-    }
-
     /// What an operator makes of two operands.
     #[inline(never)]
     pub(crate) fn operate(&mut self, operator: BinaryOperator) -> Result<Value, Halt>

@@ -111,7 +111,7 @@ module _ {kinds : ProgramKinds} {parameters : List FormalParameter} where
 
 -- functions of values alone
 
-values_back : (ws : List Value) → map argument_value (map OfValue ws) ≡ ws
+pub values_back : (ws : List Value) → map argument_value (map OfValue ws) ≡ ws
 values_back [] = refl
 values_back (x ∷ ws) = ap (λ l. x ∷ l) (values_back ws)
 

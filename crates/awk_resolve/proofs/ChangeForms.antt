@@ -46,7 +46,7 @@ by_one_is increment_operator.Decrement = refl
 
 module _ {kinds : ProgramKinds} {parameters : List FormalParameter} where
   -- a node that spends a step, and then does what an expression does
-  changed : {a c d : Builder} {node : Node} {exits : Exits} {i : ℕ} (e : Expr) (run : Program kinds → Run Value) → Extends a c → Stands exits.next c → Places kinds c d i node
+  pub changed : {a c d : Builder} {node : Node} {exits : Exits} {i : ℕ} (e : Expr) (run : Program kinds → Run Value) → Extends a c → Stands exits.next c → Places kinds c d i node
       → ((p : Program kinds) → Grows d p.all → (m : ℕ) (vs : List Value) (s : State) → place_in p m i vs s ≡ ((spend >>= λ _. run p) >>= λ _. place_in p m exits.next vs) s)
       → ((p : Program kinds) → Grows d p.all → (m : ℕ) (s : State) → IsIn p.tables parameters m s → run p s ≡ eval p.functions e s)
       → Builds kinds parameters a d i (Execute (Simple (Expression e)) exits)
@@ -137,7 +137,7 @@ module _ {kinds : ProgramKinds} {parameters : List FormalParameter} {a b c : Bui
       → Builds kinds parameters a c i (Execute (Simple (Expression (PreIncrement o x))) exits)
   pre_update_built k o q = told_as (Assign (assigned_by_one o) x (Number (pos 1))) (PreIncrement o x) (λ functions s. raised_by_one functions o x s) (update_built h (assigned_by_one o) (number_operand (pos 1)) k q)
 
-  pub pre_raise_built : {d f g : Builder} {j l m : ℕ} {place : Place} → FindsPlace kinds parameters a b place x → (o : IncrementOperator) → Pushes b c (n.Assign (assigned_by_one o) place exits.next) l → Pushes c d (n.Value (v.Push one) l) i
+  pub pre_raise_built : {d f g : Builder} {j l m : ℕ} {place : Place} → FindsPlace kinds parameters a b place x → (o : IncrementOperator) → Pushes b c (n.Assign (assigned_by_one o) place exits.next) l → Pushes c d (n.Value (v.Put (operand.Constant one)) l) i
       → Builds kinds parameters d f j (EvaluateOperand x i) → Pushes f g (n.Effect e.Spend j) m → Builds kinds parameters a g m (Execute (Simple (Expression (PreIncrement o x))) exits)
   pre_raise_built k o q q' r t =
       told_as (Assign (assigned_by_one o) x (Number (pos 1))) (PreIncrement o x) (λ functions s. raised_by_one functions o x s)

@@ -1,9 +1,11 @@
 -- Tests: what is chosen by an expression, and what gives 1 or 0.
-use Rattle.std.proofs.Common.{◌≡◌, ℕ, pos, Bool, true, false, not, List, ◌∷◌, refl, sym, subst, ◌∙◌}
+use Rattle.std.proofs.Common.{◌≡◌, ℕ, pos, Bool, true, false, not, List, ◌∷◌, Result, Ok, Err, refl, sym, subst, ◌∙◌}
 use Rattle.awk_value.specs.declared.value.Value.{Value}
 use Rattle.awk_value.specs.declared.value.Value.TheVariants as value
-use Rattle.awk_value.specs.Values.{truth_of}
+use Rattle.awk_value.specs.Values.{str_of, truth_of}
 use Rattle.awk_lex.specs.declared.token.Operator.TheVariants as o
+use Rattle.awk_ere.specs.Tree.{Tree}
+use Rattle.awk_ere.specs.Means.{occurs}
 use Rattle.awk_grammar.specs.declared.tree.UnaryOperator.{UnaryOperator}
 use Rattle.awk_grammar.specs.declared.tree.UnaryOperator.TheVariants as unary
 use Rattle.awk_grammar.specs.declared.tree.BinaryOperator.{BinaryOperator}
@@ -11,15 +13,17 @@ use Rattle.awk_grammar.specs.declared.tree.BinaryOperator.TheVariants.{Concatena
 use Rattle.awk_grammar.specs.Tree.{Expr, Ere, Group, Unary, Binary, Conditional}
 use Rattle.awk_kinds.specs.definitions.Kinds.{FormalParameter}
 use Rattle.awk_kinds.specs.definitions.Signatures.{ProgramKinds}
+use Rattle.awk_semantics.specs.declared.halt.Halt.{Halt}
 use Rattle.awk_semantics.specs.definitions.State.{State, Run, ◌>>=◌, lift, ret}
-use Rattle.awk_semantics.specs.definitions.Operators.{truth_value, changed}
-use Rattle.awk_semantics.specs.definitions.Semantics.{tested, choose, combined, eval}
+use Rattle.awk_semantics.specs.definitions.Operators.{truth_value, changed, applied, pattern_in, of_match}
+use Rattle.awk_semantics.specs.definitions.Semantics.{right_operand, tested, choose, combined, eval}
 use Rattle.awk_semantics.proofs.KeepsForms.{keeps_eval}
 use Rattle.awk_resolve.specs.declared.builder.Builder.{Builder}
+use Rattle.awk_resolve.specs.declared.node.Operand.TheVariants as operand
 use Rattle.awk_resolve.specs.declared.node.Node.TheVariants as n
 use Rattle.awk_resolve.specs.support.Builds.{Pushes, AddsEre, Evaluate, Decide, place_in, Builds, Stands}
 use Rattle.awk_resolve.specs.support.Operands.{is_not, is_and, is_or, PushesTruths}
-use Rattle.awk_resolve.proofs.Calculus.{assoc_at, later_same, later_in, given}
+use Rattle.awk_resolve.proofs.Calculus.{assoc_at, later_same, later_in, given, stopped}
 use Rattle.awk_resolve.proofs.Building.{grows, extends, same, still, placed, at_once, both}
 use Rattle.awk_resolve.proofs.ExpressionForms.{ere_added, record_matched}
 use Rattle.awk_resolve.proofs.Taking.{pushed, Takes, node, match_node, takes_stand, decided, decides, evaluates}
@@ -105,6 +109,17 @@ negated : {B : Type 0} (t : Bool) (x y : Run B) (s : State) → choose t y x s �
 negated true x y s = refl
 negated false x y s = refl
 
+exchanged : {B : Type 0} (t : Bool) (x y : Run B) (s : State) → choose (truth_of (truth_value t)) y x s ≡ choose (truth_of (truth_value (not t))) x y s
+exchanged true x y s = refl
+exchanged false x y s = refl
+
+-- no match is what `!~` tests, and a pattern that is none is refused by both
+mismatched : {B : Type 0} (text : List ℕ) (pattern : Result Tree Halt) (x y : Run B) (s : State) → (lift (of_match (λ b. b) text pattern) >>= λ w. choose (truth_of w) y x) s ≡ (lift (of_match not text pattern) >>= λ w. choose (truth_of w) x y) s
+mismatched text (Ok t) x y s =
+    let b = occurs t text in
+    given (truth_value b) (λ w. choose (truth_of w) y x) s ∙ exchanged b x y s ∙ sym (given (truth_value (not b)) (λ w. choose (truth_of w) x y) s)
+mismatched text (Err h) x y s = stopped h (λ w. choose (truth_of w) y x) s ∙ sym (stopped h (λ w. choose (truth_of w) x y) s)
+
 -- tests
 
 pub test_lowered : {kinds : ProgramKinds} {parameters : List FormalParameter} {a b c : Builder} {i j here other : ℕ} {e : Expr} → Stands here a → Stands other a → Pushes a b (n.Test here other) j → Builds kinds parameters b c i (Evaluate e j) → Builds kinds parameters a c i (Decide e here other)
@@ -117,7 +132,7 @@ test_lowered {e = e} h h' q r =
       is = λ p g m vs s l. r.is p g m vs s l ∙ later_in _ _ s m (keeps_eval p.functions p.calls.keep e) l (λ v u k. at_once (o.is p (grows r.extends.grows g) m) (v ∷ vs) u);
     }
 
-pub ere_tested : {kinds : ProgramKinds} {parameters : List FormalParameter} {a b c : Builder} {i here other number : ℕ} {text : List ℕ} → Stands here a → Stands other a → AddsEre a b number text → Pushes b c (n.MatchRecord number here other) i → Builds kinds parameters a c i (Decide (Ere text) here other)
+pub ere_tested : {kinds : ProgramKinds} {parameters : List FormalParameter} {a b c : Builder} {i here other number : ℕ} {text : List ℕ} → Stands here a → Stands other a → AddsEre a b number text → Pushes b c (n.Match (operand.Field 0) number here other) i → Builds kinds parameters a c i (Decide (Ere text) here other)
 ere_tested {text = text} h h' adds q = let g = ere_added adds in decides (record_matched adds (match_node (still g h) (still g h') q)) (λ vs. refl) (Ere text) (λ p l m vs s i. refl)
 
 module _ {kinds : ProgramKinds} {parameters : List FormalParameter} {a b : Builder} {i here other : ℕ} {e : Expr} where
@@ -139,6 +154,28 @@ module _ {kinds : ProgramKinds} {parameters : List FormalParameter} {a b : Build
         ∙ later_same (eval p.functions e) _ _ s (λ v u. negated (truth_of v) (place_in p m here vs) (place_in p m other vs) u ∙ sym (given (truth_value (not (truth_of v))) f u))
         ∙ sym (assoc_at (eval p.functions e) (λ v. lift (changed unary.Not v)) f s);
   }
+
+-- `!~` is `~` with the places exchanged
+pub mismatch_tested : {kinds : ProgramKinds} {parameters : List FormalParameter} {a b : Builder} {i here other : ℕ} {x y : Expr} → Builds kinds parameters a b i (Decide (Binary (Infix o.Matches) x y) other here) → Builds kinds parameters a b i (Decide (Binary (Infix o.NotMatches) x y) here other)
+unfolding eval
+mismatch_tested {here = here} {other = other} {x = x} {y = y} q = record {
+  extends = q.extends;
+  below = q.below;
+  pos = q.pos;
+  is = λ p g m vs s l.
+      let left = eval p.functions x in
+      let right = right_operand true y (eval p.functions y) in
+      let at = place_in p m in
+      let f = λ (w : Value). choose (truth_of w) (at other vs) (at here vs) in
+      let f' = λ (w : Value). choose (truth_of w) (at here vs) (at other vs) in
+      q.is p g m vs s l
+      ∙ assoc_at left (λ w. right >>= λ z. lift (applied o.Matches w z)) f s
+      ∙ later_same left _ _ s (λ w u.
+      assoc_at right (λ z. lift (applied o.Matches w z)) f u
+      ∙ later_same right _ _ u (λ z t. mismatched (str_of w) (pattern_in (str_of z)) (at here vs) (at other vs) t)
+      ∙ sym (assoc_at right (λ z. lift (applied o.NotMatches w z)) f' u))
+      ∙ sym (assoc_at left (λ w. right >>= λ z. lift (applied o.NotMatches w z)) f' s);
+}
 
 module _ {kinds : ProgramKinds} {parameters : List FormalParameter} {a b c : Builder} {i j here other : ℕ} {x y : Expr} (w : BinaryOperator) where
   pub and_tested : is_and w ≡ true → Builds kinds parameters a b j (Decide y here other) → Builds kinds parameters b c i (Decide x j other) → Builds kinds parameters a c i (Decide (Binary w x y) here other)

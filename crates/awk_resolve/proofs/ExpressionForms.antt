@@ -1,5 +1,5 @@
 -- What is lowered of an expression is the expression.
-use Rattle.std.proofs.Common.{◌≡◌, ℕ, zero, suc, ℤ, false, List, [], ◌∷◌, ◌++◌, length, drop, slice_get, get_or, append-nil, subst, Some, None, refl, sym, ap, ◌∙◌}
+use Rattle.std.proofs.Common.{◌≡◌, ℕ, zero, suc, ℤ, pos, false, List, [], ◌∷◌, ◌++◌, length, drop, slice_get, get_or, append-nil, subst, Some, None, refl, sym, ap, ◌∙◌}
 use Rattle.awk_value.specs.declared.value.Value.{Value}
 use Rattle.awk_value.specs.declared.value.Value.TheVariants as value
 use Rattle.awk_value.specs.Values.{str_of}
@@ -14,7 +14,7 @@ use Rattle.awk_kinds.specs.definitions.Kinds.{FormalParameter}
 use Rattle.awk_kinds.specs.definitions.Signatures.{ProgramKinds}
 use Rattle.awk_semantics.specs.definitions.State.{State, Run, ◌>>=◌, lift, ret}
 use Rattle.awk_semantics.specs.definitions.Operators.{truth_value, applied, by_one, one, operator_of, takes_pattern}
-use Rattle.awk_semantics.specs.definitions.Primitives.{record_text, has_element}
+use Rattle.awk_semantics.specs.definitions.Primitives.{record_text, read_field, has_element}
 use Rattle.awk_semantics.specs.definitions.Places.{assign_by, post_increment}
 use Rattle.awk_semantics.specs.definitions.Semantics.{right_operand, combined, eval}
 use Rattle.awk_semantics.proofs.KeepsForms.{keeps_eval, keeps_key_of}
@@ -24,6 +24,7 @@ use Rattle.awk_storage.specs.declared.position.Place.{Place}
 use Rattle.awk_storage.specs.definitions.Positions.{read_element_of}
 use Rattle.awk_storage.specs.definitions.Forms.{contains_at}
 use Rattle.awk_resolve.specs.declared.builder.Builder.{Builder}
+use Rattle.awk_resolve.specs.declared.node.Operand.TheVariants as operand
 use Rattle.awk_resolve.specs.declared.node.ValueNode.TheVariants as v
 use Rattle.awk_resolve.specs.declared.node.Node.TheVariants as n
 use Rattle.awk_resolve.specs.definitions.Nodes.{operands, operated, ere_at, value_of}
@@ -38,11 +39,11 @@ use Rattle.awk_resolve.proofs.Targets.{assigned_by, incremented}
 use Rattle.awk_resolve.proofs.Taking.{Goal, Takes, node, value_first, key_first, place_first, alike, evaluates}
 
 module _ {kinds : ProgramKinds} {parameters : List FormalParameter} {a b : Builder} {i next : ℕ} where
-  pub number_lowered : (k : ℤ) → Stands next a → Pushes a b (n.Value (v.Push (value.Number k)) next) i → Builds kinds parameters a b i (Evaluate (Number k) next)
+  pub number_lowered : (k : ℤ) → Stands next a → Pushes a b (n.Value (v.Put (operand.Constant (value.Number k))) next) i → Builds kinds parameters a b i (Evaluate (Number k) next)
   unfolding eval
   number_lowered k h q = evaluates (node h q) (λ vs. refl) (Number k) (λ p g m vs s l. refl)
 
-  pub string_lowered : (text : List ℕ) → Stands next a → Pushes a b (n.Value (v.Push (value.Text text)) next) i → Builds kinds parameters a b i (Evaluate (String text) next)
+  pub string_lowered : (text : List ℕ) → Stands next a → Pushes a b (n.Value (v.Put (operand.Constant (value.Text text))) next) i → Builds kinds parameters a b i (Evaluate (String text) next)
   unfolding eval
   string_lowered text h q = evaluates (node h q) (λ vs. refl) (String text) (λ p g m vs s l. refl)
 
@@ -54,7 +55,7 @@ module _ {kinds : ProgramKinds} {parameters : List FormalParameter} {a b : Build
 pub takes_behind : {kinds : ProgramKinds} {parameters : List FormalParameter} {a b c : Builder} {i : ℕ} {goal : Goal} {m : Program kinds → List Value → Run Value} {left : List Value → List Value} → Extends a b → Takes kinds parameters b c i goal m left → Takes kinds parameters a c i goal m left
 takes_behind g t = record { extends = extends g t.extends; below = t.below; pos = t.pos; is = t.is }
 
-pub name_lowered : {kinds : ProgramKinds} {parameters : List FormalParameter} {a b c : Builder} {i next : ℕ} {variable : Variable} {x : List ℕ} → Stands next a → FindsVariable kinds parameters a b variable x → Pushes b c (n.Value (v.Read variable) next) i → Builds kinds parameters a c i (Evaluate (Name x) next)
+pub name_lowered : {kinds : ProgramKinds} {parameters : List FormalParameter} {a b c : Builder} {i next : ℕ} {variable : Variable} {x : List ℕ} → Stands next a → FindsVariable kinds parameters a b variable x → Pushes b c (n.Value (v.Put (operand.Variable variable)) next) i → Builds kinds parameters a c i (Evaluate (Name x) next)
 unfolding eval
 name_lowered {x = x} h f q =
     let t = node (still f.extends h) q in
@@ -78,14 +79,20 @@ ere_there {a = a} {b = b} {number = number} {text = text} q p g =
     found (x ∷ xs) zero e = cc
     found (x ∷ xs) (suc k) e = found xs k e
 
+-- field 0 is the record
+whole_record : (s : State) → read_field (pos 0) s ≡ record_text s
+unfolding read_field record_text
+whole_record s = refl
+
 -- an ERE, wherever its value goes
-pub record_matched : {kinds : ProgramKinds} {parameters : List FormalParameter} {a b c : Builder} {i number : ℕ} {goal : Goal} {text : List ℕ} → AddsEre a b number text → Takes kinds parameters b c i goal (λ p vs. value_of p.tables p.functions (v.RecordMatches number) vs) (λ vs. vs)
+pub record_matched : {kinds : ProgramKinds} {parameters : List FormalParameter} {a b c : Builder} {i number : ℕ} {goal : Goal} {text : List ℕ} → AddsEre a b number text → Takes kinds parameters b c i goal (λ p vs. value_of p.tables p.functions (v.Matches (operand.Field 0) number) vs) (λ vs. vs)
     → Takes kinds parameters a c i goal (λ p vs. eval p.functions (Ere text)) (λ vs. vs)
 unfolding eval
-record_matched adds t = alike (takes_behind (ere_added adds) t) (λ p g m vs s l.
-    ap (λ (x : List ℕ). (record_text >>= λ w. lift (applied o.Matches w (value.Text x))) s) (ere_there adds p (grows t.extends.grows g)))
+record_matched {number = number} adds t = alike (takes_behind (ere_added adds) t) (λ p g m vs s l.
+    first_same (read_field (pos 0)) record_text (λ w. lift (applied o.Matches w (value.Text (ere_at p.tables number)))) s (whole_record s)
+    ∙ ap (λ (x : List ℕ). (record_text >>= λ w. lift (applied o.Matches w (value.Text x))) s) (ere_there adds p (grows t.extends.grows g)))
 
-pub ere_lowered : {kinds : ProgramKinds} {parameters : List FormalParameter} {a c : Builder} {i next : ℕ} {text : List ℕ} → Stands next a → PushesEre a c (λ k. v.RecordMatches k) text i next → Builds kinds parameters a c i (Evaluate (Ere text) next)
+pub ere_lowered : {kinds : ProgramKinds} {parameters : List FormalParameter} {a c : Builder} {i next : ℕ} {text : List ℕ} → Stands next a → PushesEre a c (λ k. v.Matches (operand.Field 0) k) text i next → Builds kinds parameters a c i (Evaluate (Ere text) next)
 ere_lowered {text = text} h q = evaluates (record_matched q.adds (node (still (ere_added q.adds) h) q.pushes)) (λ vs. refl) (Ere text) (λ p g m vs s l. refl)
 
 -- an operand, and then what is made of it

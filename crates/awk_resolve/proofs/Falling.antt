@@ -1,6 +1,6 @@
 -- No node raises the steps: a line for each.
 use Rattle.std.proofs.Math.Nat.{le_refl, le_trans}
-use Rattle.std.proofs.Common.{◌≡◌, ℕ, zero, suc, ◌≤◌, Bool, List, [], ◌∷◌, ◌++◌, map, slice_get, codes, Option, Some, None, Result, Ok, Err, refl, sym, subst}
+use Rattle.std.proofs.Common.{◌≡◌, ℕ, pos, zero, suc, ◌≤◌, Bool, List, [], ◌∷◌, ◌++◌, map, slice_get, codes, Option, Some, None, Result, Ok, Err, refl, sym, subst}
 use Rattle.std.specs.List.{concat}
 use Rattle.awk_value.specs.declared.value.Value.{Value}
 use Rattle.awk_value.specs.declared.value.Value.TheVariants as value
@@ -39,6 +39,8 @@ use Rattle.awk_lex.specs.declared.token.AssignmentOperator.{AssignmentOperator}
 use Rattle.awk_grammar.specs.declared.tree.BinaryOperator.{BinaryOperator}
 use Rattle.awk_resolve.specs.declared.node.Operand.{Operand}
 use Rattle.awk_resolve.specs.declared.node.Operand.TheVariants as operand
+use Rattle.awk_resolve.specs.declared.node.Target.{Target}
+use Rattle.awk_resolve.specs.declared.node.Target.TheVariants as target
 use Rattle.awk_resolve.specs.declared.node.Source.{Source}
 use Rattle.awk_resolve.specs.declared.node.Source.TheVariants as source
 use Rattle.awk_resolve.specs.declared.node.SplitBy.TheVariants as by
@@ -46,7 +48,7 @@ use Rattle.awk_resolve.specs.declared.node.ValueNode.{ValueNode}
 use Rattle.awk_resolve.specs.declared.node.ValueNode.TheVariants as v
 use Rattle.awk_resolve.specs.declared.node.EffectNode.{EffectNode}
 use Rattle.awk_resolve.specs.declared.node.EffectNode.TheVariants as e
-use Rattle.awk_resolve.specs.definitions.Nodes.{operand_value, operated_with, operated_on, field_at, assign_variable, append_to, print_field, update, increment, Tables, first, second, taken, given_by, call_at, substitute_by, substitute, getline_by, value_of, target_by, effect_of}
+use Rattle.awk_resolve.specs.definitions.Nodes.{operand_value, operated_with, operated_on, operand_values, assign_variable, append_to, append_operands_at, append_operands, append_by_step, print_operands, update, increment, Tables, first, second, taken, given_by, call_at, substitute_by, substitute, getline_by, value_of, target_by, effect_of}
 
 pub record Falls {A : Type 0} (m : Run A) : Type 0 where
   pub falls : (s : State) → (m s).state.steps ≤ s.steps
@@ -169,6 +171,12 @@ module _ (names : List (List ℕ)) where
   operand_falls : (a : Operand) → Falls (operand_value names a)
   operand_falls (operand.Constant x) = lift_falls (Ok x)
   operand_falls (operand.Variable x) = read_variable_falls names x
+  operand_falls (operand.Field k) = kept_falls (keeps_read_field (pos k))
+  operand_falls (operand.FieldAt x) = then_falls _ (read_variable_falls names x) (λ w. then_falls _ (kept_falls (keeps_number_of w)) (λ k. kept_falls (keeps_read_field k)))
+
+  operands_fall : (list : List Operand) → Falls (operand_values names list)
+  operands_fall [] = lift_falls (Ok [])
+  operands_fall (a ∷ rest) = then_falls _ (operand_falls a) (λ w. then_falls _ (operands_fall rest) (λ ws. lift_falls _))
 
   pub operated_with_falls : (o : BinaryOperator) (x : Value) (b : Operand) → Falls (operated_with names o x b)
   operated_with_falls o x b = then_falls _ (operand_falls b) (λ y. lift_falls _)
@@ -176,17 +184,24 @@ module _ (names : List (List ℕ)) where
   pub operated_on_falls : (o : BinaryOperator) (a b : Operand) → Falls (operated_on names o a b)
   operated_on_falls o a b = then_falls _ (operand_falls a) (λ x. operated_with_falls o x b)
 
-  pub field_at_falls : (a : Operand) → Falls (field_at names a)
-  field_at_falls a = then_falls _ (operand_falls a) (λ x. then_falls _ (kept_falls (keeps_number_of x)) (λ k. kept_falls (keeps_read_field k)))
-
   assign_variable_falls : (o : AssignmentOperator) (x : Variable) (w : Value) → Falls (assign_variable names o x w)
   assign_variable_falls o x w = assign_by_falls names (operator_of o) (place.Variable x) value.Nothing w
 
   pub append_to_falls : (x : Variable) (ws : List Value) → Falls (append_to names x ws)
   append_to_falls x ws = then_falls _ (read_variable_falls names x) (λ old. assign_by_falls names None (place.Variable x) value.Nothing (value.Text (str_of old ++ concat (map str_of ws))))
 
-  pub print_field_falls : (a : Operand) → Falls (print_field names a)
-  print_field_falls a = then_falls _ (field_at_falls a) (λ w. kept_falls (keeps_print_line 0 (w ∷ [])))
+  append_operands_at_falls : (p : Place) (key : Value) (list : List Operand) → Falls (append_operands_at names p key list)
+  append_operands_at_falls p key list = then_falls _ (read_at_falls names p key) (λ old. then_falls _ (operands_fall list) (λ ws. assign_by_falls names None p key (value.Text (str_of old ++ concat (map str_of ws)))))
+
+  append_operands_falls : (t : Target) (list : List Operand) → Falls (append_operands names t list)
+  append_operands_falls (target.Variable x) list = append_operands_at_falls (place.Variable x) value.Nothing list
+  append_operands_falls (target.Element a key) list = then_falls _ (operand_falls key) (λ w. append_operands_at_falls (place.Element a) w list)
+
+  pub append_by_step_falls : (t : Target) (list : List Operand) → Falls (append_by_step names t list)
+  append_by_step_falls t list = then_falls _ (kept_falls keeps_spend) (λ _. append_operands_falls t list)
+
+  pub print_operands_falls : (list : List Operand) → Falls (print_operands names list)
+  print_operands_falls list = then_falls _ (operands_fall list) (λ ws. kept_falls (keeps_print_line 0 ws))
 
   pub update_falls : (o : AssignmentOperator) (x : Variable) (a : Operand) → Falls (update names o x a)
   update_falls o x a = then_falls _ (kept_falls keeps_spend) (λ _. then_falls _ (operand_falls a) (λ w. assign_variable_falls o x w))
@@ -258,16 +273,14 @@ module _ (tables : Tables) where
     call_falls f fs vs = then_falls _ (given_falls fs vs) (λ given. then_falls _ (kept_falls (keeps_check_height (functions.height f))) (λ _. then_falls _ (kept_falls keeps_spend) (λ _. kept_falls (calls f given))))
 
     pub value_falls : (x : ValueNode) (vs : List Value) → Falls (value_of tables functions x vs)
-    value_falls (v.Push x) vs = lift_falls (Ok x)
-    value_falls (v.Read x) vs = read_variable_falls tables.names x
-    value_falls (v.RecordMatches i) vs = then_falls _ (kept_falls keeps_record_text) (λ x. lift_falls _)
+    value_falls (v.Put a) vs = operand_falls tables.names a
+    value_falls (v.Matches a i) vs = then_falls _ (operand_falls tables.names a) (λ x. lift_falls _)
     value_falls (v.Operate o) vs = lift_falls _
     value_falls (v.OperateWith o b) vs = operated_with_falls tables.names o (first vs) b
     value_falls (v.OperateOn o a b) vs = operated_on_falls tables.names o a b
     value_falls (v.MatchesEre o i) vs = lift_falls _
     value_falls (v.Change o) vs = lift_falls _
     value_falls (v.ConcatenateAll k) vs = lift_falls _
-    value_falls (v.ReadFieldAt a) vs = field_at_falls tables.names a
     value_falls v.ReadField vs = then_falls _ (kept_falls (keeps_number_of (first vs))) (λ k. kept_falls (keeps_read_field k))
     value_falls (v.ReadElement a) vs = read_element_falls a _
     value_falls (v.Contains a) vs = then_falls _ (contains_falls a _) (λ b. lift_falls _)
@@ -281,6 +294,7 @@ module _ (tables : Tables) where
     value_falls v.RecordLength vs = kept_falls keeps_record_length
     value_falls (v.CountElements a) vs = count_falls a
     value_falls (v.Apply f k) vs = lift_falls _
+    value_falls (v.ApplyTo f list k) vs = then_falls _ (operands_fall tables.names list.items) (λ ws. lift_falls _)
     value_falls (v.Match (Some i)) vs = match_falls _ _
     value_falls (v.Match None) vs = match_falls _ _
     value_falls (v.Split a by.FieldSeparator) vs = split_falls a _ (kept_falls keeps_field_separator)

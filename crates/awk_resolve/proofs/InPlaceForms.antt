@@ -1,30 +1,33 @@
 -- Operands that are read where they stand.
-use Rattle.std.proofs.Common.{◌≡◌, ℕ, ℤ, true, false, not, ◌&&◌, is_none, List, drop, None, refl, sym, subst, ap, ◌∙◌}
+use Rattle.std.proofs.Common.{◌≡◌, ℕ, ℤ, pos, true, false, not, ◌&&◌, is_none, List, drop, None, refl, sym, subst, ap, ◌∙◌}
 use Rattle.awk_value.specs.declared.value.Value.{Value}
 use Rattle.awk_value.specs.declared.value.Value.TheVariants as value
 use Rattle.awk_lex.specs.declared.token.Operator.TheVariants as o
 use Rattle.awk_grammar.specs.declared.tree.BinaryOperator.{BinaryOperator}
 use Rattle.awk_grammar.specs.declared.tree.BinaryOperator.TheVariants.{Concatenate, Infix}
-use Rattle.awk_grammar.specs.Tree.{Expr, Number, String, Name, Binary}
+use Rattle.awk_grammar.specs.Tree.{Expr, Number, String, Ere, Name, Field, Binary}
 use Rattle.awk_kinds.specs.definitions.Kinds.{FormalParameter}
 use Rattle.awk_kinds.specs.definitions.Signatures.{ProgramKinds}
 use Rattle.awk_semantics.specs.definitions.State.{State, ◌>>=◌, lift}
+use Rattle.awk_semantics.specs.definitions.Operators.{applied}
+use Rattle.awk_semantics.specs.definitions.Primitives.{number_of, read_name, read_field}
 use Rattle.awk_semantics.specs.definitions.Semantics.{eval}
 use Rattle.awk_semantics.proofs.KeepsForms.{keeps_eval}
 use Rattle.awk_storage.specs.declared.position.Variable.{Variable}
+use Rattle.awk_storage.specs.definitions.Positions.{read_variable}
 use Rattle.awk_resolve.specs.declared.builder.Builder.{Builder}
 use Rattle.awk_resolve.specs.declared.node.Operand.{Operand}
 use Rattle.awk_resolve.specs.declared.node.Operand.TheVariants as operand
 use Rattle.awk_resolve.specs.declared.node.ValueNode.TheVariants as v
 use Rattle.awk_resolve.specs.declared.node.Node.{Node}
 use Rattle.awk_resolve.specs.declared.node.Node.TheVariants as n
-use Rattle.awk_resolve.specs.definitions.Nodes.{operand_value, operated_with, operated_on, operated, value_of}
-use Rattle.awk_resolve.specs.support.Builds.{Grows, Pushes, Extends, IsIn, Program, Evaluate, Decide, Builds, FindsVariable, IsOperandOf, FindsAnOperand, Stands}
+use Rattle.awk_resolve.specs.definitions.Nodes.{operand_value, operated_with, operated_on, operated, ere_at, value_of}
+use Rattle.awk_resolve.specs.support.Builds.{Grows, Pushes, AddsEre, Extends, IsIn, Program, Evaluate, Decide, Builds, FindsVariable, IsOperandOf, FindsAnOperand, Stands}
 use Rattle.awk_resolve.specs.support.Operands.{is_and, is_or, matching_operator, is_strict}
-use Rattle.awk_resolve.proofs.Calculus.{later_in, first_same}
+use Rattle.awk_resolve.proofs.Calculus.{later_same, later_in, first_same, given}
 use Rattle.awk_resolve.proofs.Building.{grows, extends, same, still}
-use Rattle.awk_resolve.proofs.Taking.{Goal, Takes, node, compare_with_node, compare_node, value_first, alike, decides, evaluates}
-use Rattle.awk_resolve.proofs.ExpressionForms.{takes_behind, applied_strictly}
+use Rattle.awk_resolve.proofs.Taking.{Goal, Takes, node, match_node, compare_with_node, compare_node, value_first, alike, decides, evaluates}
+use Rattle.awk_resolve.proofs.ExpressionForms.{takes_behind, ere_added, ere_there, applied_strictly}
 
 -- nothing was built before a node
 pub nothing_before : {a b c : Builder} {x : Node} {i : ℕ} → b ≡ a → Pushes b c x i → Pushes a c x i
@@ -42,6 +45,37 @@ module _ {kinds : ProgramKinds} {parameters : List FormalParameter} where
   pub name_operand : {a b : Builder} {x : List ℕ} {variable : Variable} → FindsVariable kinds parameters a b variable x → FindsAnOperand kinds parameters a b (operand.Variable variable) (Name x)
   unfolding eval
   name_operand f = record { extends = f.extends; is = record { is = λ p g m s l. sym (f.is.reads p g m s l) } }
+
+  pub numbered_field_operand : {a : Builder} (k : ℕ) → FindsAnOperand kinds parameters a a (operand.Field k) (Field (Number (pos k)))
+  unfolding eval
+  numbered_field_operand k = record {
+    extends = same;
+    is = record { is = λ p g m s l. sym (given (value.Number (pos k)) (λ w. number_of w >>= λ z. read_field z) s ∙ given (pos k) (λ z. read_field z) s) };
+  }
+
+  pub named_field_operand : {a b : Builder} {x : List ℕ} {variable : Variable} → FindsVariable kinds parameters a b variable x → FindsAnOperand kinds parameters a b (operand.FieldAt variable) (Field (Name x))
+  unfolding eval
+  named_field_operand {x = x} {variable = variable} f = record {
+    extends = f.extends;
+    is = record { is = λ p g m s l. first_same (read_variable p.tables.names variable) (read_name x) (λ w. number_of w >>= λ k. read_field k) s (sym (f.is.reads p g m s l)) };
+  }
+
+  -- an operand is put on the stack
+  pub operand_lowered : {a b c : Builder} {i next : ℕ} {e : Expr} {found : Operand} → Stands next a → FindsAnOperand kinds parameters a b found e → Pushes b c (n.Value (v.Put found) next) i → Builds kinds parameters a c i (Evaluate e next)
+  operand_lowered {e = e} h f q =
+      let t = node (still f.extends h) q in
+      evaluates (takes_behind f.extends t) (λ vs. refl) e (λ p g m vs s l. f.is.is p (grows t.extends.grows g) m s l)
+
+  -- whether an operand has a match of an ERE is tested
+  pub match_tested : {a b c d : Builder} {i here other number : ℕ} {x : Expr} {found : Operand} {text : List ℕ} → Stands here a → Stands other a → FindsAnOperand kinds parameters a b found x → AddsEre b c number text → Pushes c d (n.Match found number here other) i
+      → Builds kinds parameters a d i (Decide (Binary (Infix o.Matches) x (Ere text)) here other)
+  unfolding eval
+  match_tested {number = number} {x = x} {found = found} {text = text} h h' f adds q =
+      let before = extends f.extends (ere_added adds) in
+      let t = match_node (still before h) (still before h') q in
+      decides (takes_behind before t) (λ vs. refl) (Binary (Infix o.Matches) x (Ere text)) (λ p g m vs s l.
+      first_same (operand_value p.tables.names found) (eval p.functions x) (λ w. lift (applied o.Matches w (value.Text (ere_at p.tables number)))) s (f.is.is p (grows (ere_added adds).grows (grows t.extends.grows g)) m s l)
+      ∙ later_same (eval p.functions x) _ _ s (λ w u. ap (λ (z : List ℕ). lift (applied o.Matches w (value.Text z)) u) (ere_there adds p (grows t.extends.grows g)) ∙ sym (given (value.Text text) (λ z. lift (applied o.Matches w z)) u)))
 
 -- what an operator is that takes both values
 pub record Strict (w : BinaryOperator) : Type 0 where
@@ -80,7 +114,7 @@ module _ {kinds : ProgramKinds} {parameters : List FormalParameter} (p : Program
       first_same (operand_value p.tables.names left) (eval p.functions x) _ s (is.is p g n s h)
       ∙ later_in _ _ s n (keeps_eval p.functions p.calls.keep x) h (λ u t k. with_same is' u n t k)
 
-still_operand : {kinds : ProgramKinds} {parameters : List FormalParameter} {b c : Builder} {a : Operand} {e : Expr} → Extends b c → IsOperandOf kinds parameters b a e → IsOperandOf kinds parameters c a e
+pub still_operand : {kinds : ProgramKinds} {parameters : List FormalParameter} {b c : Builder} {a : Operand} {e : Expr} → Extends b c → IsOperandOf kinds parameters b a e → IsOperandOf kinds parameters c a e
 still_operand g is = record { is = λ p h n s i. is.is p (grows g.grows h) n s i }
 
 pub strictly_by : (w : BinaryOperator) → is_and w ≡ false → is_or w ≡ false → matching_operator w ≡ None → is_strict w ≡ true

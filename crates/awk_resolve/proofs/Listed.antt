@@ -10,7 +10,7 @@ use Rattle.awk_storage.specs.definitions.Forms.{keys_of_array}
 use Rattle.awk_resolve.specs.declared.node.ValueNode.TheVariants as v
 use Rattle.awk_resolve.specs.declared.node.Node.{Node}
 use Rattle.awk_resolve.specs.declared.node.Node.TheVariants as n
-use Rattle.awk_resolve.specs.definitions.Nodes.{operated_with, operated_on, append_to, print_field, update, increment, Tables, Cont, nothing, first, second, taken, value_of, popped, effect_of, dropped, walk_values, keys_left, next_key_by, made as made_with, conts as conts_with, level, cont_at as cont_with, AreBelow, IsOrdered}
+use Rattle.awk_resolve.specs.definitions.Nodes.{operated_with, operated_on, append_to, append_by_step, print_operands, update, increment, Tables, Cont, nothing, first, second, taken, value_of, popped, effect_of, dropped, walk_values, keys_left, next_key_by, made as made_with, conts as conts_with, level, cont_at as cont_with, AreBelow, IsOrdered}
 
 abbrev at_place : List Cont → ℕ → Cont
 at_place done i = get_or done i nothing
@@ -46,14 +46,15 @@ module _ (tables : Tables) (functions : Functions) (again : ℕ → Cont) where
   made_alike f g k same (n.Test here other) h = λ j vs. choose (truth_of (first vs)) (same here h.0 j (drop 1 vs)) (same other h.1 j (drop 1 vs))
   made_alike f g k same (n.CompareWith o b here other) h = λ j vs. operated_with tables.names o (first vs) b >>= λ x. choose (truth_of x) (same here h.0 j (drop 1 vs)) (same other h.1 j (drop 1 vs))
   made_alike f g k same (n.Compare o a b here other) h = λ j vs. operated_on tables.names o a b >>= λ x. choose (truth_of x) (same here h.0 j vs) (same other h.1 j vs)
-  made_alike f g k same (n.MatchRecord i here other) h = λ j vs. value_of tables functions (v.RecordMatches i) vs >>= λ x. choose (truth_of x) (same here h.0 j vs) (same other h.1 j vs)
+  made_alike f g k same (n.Match a i here other) h = λ j vs. value_of tables functions (v.Matches a i) vs >>= λ x. choose (truth_of x) (same here h.0 j vs) (same other h.1 j vs)
   made_alike f g k same (n.TestInside i here other) h = λ j vs. is_inside i >>= λ inside. choose inside (same here h.0 j vs) (same other h.1 j vs)
   made_alike f g k same (n.Assign o p i) h = λ j vs. value_of tables functions (v.Assign o p) vs >>= λ _. same i h j (drop (popped (v.Assign o p)) vs)
   made_alike f g k same (n.Raise o p i) h = λ j vs. value_of tables functions (v.PostIncrement o p) vs >>= λ _. same i h j (drop (popped (v.PostIncrement o p)) vs)
   made_alike f g k same (n.Update o x a i) h = λ j vs. update tables.names o x a >>= λ _. same i h j vs
   made_alike f g k same (n.Increment o x i) h = λ j vs. increment tables.names o x >>= λ _. same i h j vs
   made_alike f g k same (n.AppendTo x count i) h = λ j vs. append_to tables.names x (taken count vs) >>= λ _. same i h j (drop count vs)
-  made_alike f g k same (n.PrintField a i) h = λ j vs. print_field tables.names a >>= λ _. same i h j vs
+  made_alike f g k same (n.AppendOperands t list i) h = λ j vs. append_by_step tables.names t list.items >>= λ _. same i h j vs
+  made_alike f g k same (n.Print list i) h = λ j vs. print_operands tables.names list.items >>= λ _. same i h j vs
   made_alike f g k same (n.Again i) h = refl
   made_alike f g k same (n.Walk a i) h = λ j vs. keys_of_array a >>= λ keys. same i h j (walk_values keys ++ vs)
   made_alike f g k same (n.NextKey i exit) h = λ j vs. next_key_by (keys_left (first vs)) (again i vs) (same exit h j (drop 1 vs))

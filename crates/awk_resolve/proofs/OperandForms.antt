@@ -14,6 +14,7 @@ use Rattle.awk_semantics.specs.definitions.Primitives.{number_of}
 use Rattle.awk_semantics.specs.definitions.Semantics.{eval}
 use Rattle.awk_semantics.proofs.KeepsForms.{keeps_eval}
 use Rattle.awk_resolve.specs.declared.builder.Builder.{Builder}
+use Rattle.awk_resolve.specs.declared.node.Operand.TheVariants as operand
 use Rattle.awk_resolve.specs.declared.node.ValueNode.TheVariants as v
 use Rattle.awk_resolve.specs.declared.node.Node.TheVariants as n
 use Rattle.awk_resolve.specs.support.Builds.{Pushes, Evaluate, EvaluateKey, EvaluateOperand, place_in, Builds, Stands}
@@ -42,7 +43,7 @@ field_operand {next = next} {e = e} h q r =
     }
 
 -- a number is that of a field as it is
-pub number_field : {kinds : ProgramKinds} {parameters : List FormalParameter} {a b : Builder} {i next : ℕ} (k : ℤ) → Stands next a → Pushes a b (n.Value (v.Push (value.Number k)) next) i → Builds kinds parameters a b i (EvaluateOperand (Field (Number k)) next)
+pub number_field : {kinds : ProgramKinds} {parameters : List FormalParameter} {a b : Builder} {i next : ℕ} (k : ℤ) → Stands next a → Pushes a b (n.Value (v.Put (operand.Constant (value.Number k))) next) i → Builds kinds parameters a b i (EvaluateOperand (Field (Number k)) next)
 unfolding eval
 number_field {next = next} k h q =
     let o = placed q h.below in

@@ -11,21 +11,17 @@ use Rattle.awk_kinds.specs.definitions.Kinds.{FormalParameter}
 use Rattle.awk_kinds.specs.definitions.NameUses.{count_of}
 use Rattle.awk_kinds.specs.definitions.Signatures.{ProgramKinds}
 use Rattle.awk_semantics.specs.definitions.State.{State, Run, ◌>>=◌, lift, ret}
-use Rattle.awk_semantics.specs.definitions.Primitives.{number_of, read_field}
 use Rattle.awk_semantics.specs.definitions.Semantics.{Functions, eval, eval_all}
 use Rattle.awk_semantics.proofs.KeepsForms.{keeps_eval_all}
 use Rattle.awk_resolve.specs.declared.builder.Builder.{Builder}
-use Rattle.awk_resolve.specs.declared.node.Operand.{Operand}
 use Rattle.awk_resolve.specs.declared.node.ValueNode.TheVariants as v
 use Rattle.awk_resolve.specs.declared.node.Node.TheVariants as n
-use Rattle.awk_resolve.specs.definitions.Nodes.{operand_value}
-use Rattle.awk_resolve.specs.support.Builds.{Pushes, Evaluate, EvaluateAll, place_in, Builds, FindsAnOperand, Stands}
+use Rattle.awk_resolve.specs.support.Builds.{Pushes, Evaluate, EvaluateAll, place_in, Builds, Stands}
 use Rattle.awk_resolve.specs.support.Parts.{is_concatenation, with_last, parts_of, parts_behind}
-use Rattle.awk_resolve.proofs.Calculus.{assoc_at, later_same, later_in, first_same, given}
-use Rattle.awk_resolve.proofs.Building.{grows, extends, still}
+use Rattle.awk_resolve.proofs.Calculus.{assoc_at, later_same, later_in, given}
+use Rattle.awk_resolve.proofs.Building.{grows, extends}
 use Rattle.awk_resolve.proofs.ValueLists.{taken_all, dropped_all, all_first, counted}
 use Rattle.awk_resolve.proofs.Taking.{node, list_first, evaluates}
-use Rattle.awk_resolve.proofs.ExpressionForms.{takes_behind}
 
 pub count_with_last : (es : Exprs) (e : Expr) → count_of (with_last es e) ≡ suc (count_of es)
 count_with_last Nil e = refl
@@ -128,13 +124,6 @@ module _ {kinds : ProgramKinds} {parameters : List FormalParameter} {a b c : Bui
         ∙ later_same (eval p.functions y) _ _ u (λ w t. ap (λ (xs : List Value). place_in p m next xs t) (onto_last w ws vs)))
         ∙ sym (all_with_last p.functions es y (λ ws. place_in p m next (reverse ws ++ vs)) s);
   }
-
-  pub field_at_lowered : {y : Expr} {operand : Operand} → Stands next a → FindsAnOperand kinds parameters a b operand y → Pushes b c (n.Value (v.ReadFieldAt operand) next) i → Builds kinds parameters a c i (Evaluate (Field y) next)
-  unfolding eval
-  field_at_lowered {y = y} {operand = operand} h f q =
-      let t = node (still f.extends h) q in
-      evaluates (takes_behind f.extends t) (λ vs. refl) (Field y) (λ p g m vs s l.
-      first_same (operand_value p.tables.names operand) (eval p.functions y) (λ x. number_of x >>= λ k. read_field k) s (f.is.is p (grows t.extends.grows g) m s l))
 
 -- an expression that is a list by itself
 pub whole_lowered : {kinds : ProgramKinds} {parameters : List FormalParameter} {a b : Builder} {i next : ℕ} {e : Expr} → Builds kinds parameters a b i (Evaluate e next) → Builds kinds parameters a b i (EvaluateAll (Cons e Nil) next)

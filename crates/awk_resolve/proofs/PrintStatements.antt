@@ -1,18 +1,20 @@
 -- What is built of prints and deletions does what they mean.
-use Rattle.std.proofs.Common.{◌≡◌, ℕ, ◌+◌, List, [], ◌∷◌, ◌++◌, reverse, drop, suc, Some, None, length, refl, sym, ap, ◌∙◌, arith}
+use Rattle.std.proofs.Common.{◌≡◌, ℕ, ◌+◌, ◌<◌, List, [], ◌∷◌, ◌++◌, reverse, drop, suc, Some, None, length, refl, sym, ap, ◌∙◌, arith}
+use Rattle.std.specs.Global.{Vec}
 use Rattle.awk_value.specs.declared.value.Value.{Value}
 use Rattle.awk_value.specs.Values.{str_of}
 use Rattle.awk_grammar.specs.declared.tree.PrintForm.{PrintForm}
 use Rattle.awk_grammar.specs.declared.tree.Redirection.{Redirection}
 use Rattle.awk_grammar.specs.declared.tree.PrintForm.TheVariants as form
-use Rattle.awk_grammar.specs.Tree.{Expr, Field, Exprs, Nil, Cons, PrintList, Bare, Parenthesized, Standard, Redirected, Print, Delete, DeleteAll, Simple}
+use Rattle.awk_grammar.specs.Tree.{Expr, Exprs, Nil, Cons, PrintList, Bare, Parenthesized, Standard, Redirected, Print, Delete, DeleteAll, Simple}
 use Rattle.awk_kinds.specs.definitions.Kinds.{FormalParameter}
 use Rattle.awk_kinds.specs.definitions.Signatures.{ProgramKinds}
 use Rattle.awk_kinds.specs.definitions.NameUses.{count_of}
 use Rattle.awk_semantics.specs.definitions.State.{State, Run, ◌>>=◌, ret}
-use Rattle.awk_semantics.specs.definitions.Primitives.{spend, number_of, read_field, print_line, delete_element, clear_array}
+use Rattle.awk_semantics.specs.definitions.Primitives.{spend, print_line, delete_element, clear_array}
 use Rattle.awk_semantics.specs.definitions.Streams.{open_target}
 use Rattle.awk_semantics.specs.definitions.Semantics.{Functions, eval, eval_all, key_of, printed_values, target_of, print_by}
+use Rattle.awk_semantics.proofs.KeepsForms.{keeps_eval}
 use Rattle.awk_storage.specs.declared.position.Array.{Array}
 use Rattle.awk_storage.specs.definitions.Forms.{delete_at, clear_at}
 use Rattle.awk_resolve.specs.declared.node.Node.TheVariants as n
@@ -20,9 +22,9 @@ use Rattle.awk_resolve.specs.declared.node.EffectNode.TheVariants as e
 use Rattle.awk_resolve.specs.declared.node.Operand.{Operand}
 use Rattle.awk_resolve.specs.declared.builder.Builder.{Builder}
 use Rattle.awk_resolve.specs.declared.builder.Exits.{Exits}
-use Rattle.awk_resolve.specs.definitions.Nodes.{Cont, taken, operand_value, field_at}
+use Rattle.awk_resolve.specs.definitions.Nodes.{Cont, taken, operand_value, operand_values}
 use Rattle.awk_resolve.specs.support.Printed.{listed}
-use Rattle.awk_resolve.specs.support.Builds.{Grows, Pushes, IsIn, Program, Evaluate, EvaluateAll, EvaluateKey, Execute, IsArrayOf, FindsAnOperand, leave_by, place_in, Places, Builds, Stands}
+use Rattle.awk_resolve.specs.support.Builds.{Grows, Pushes, IsIn, Program, Evaluate, EvaluateAll, EvaluateKey, Execute, IsArrayOf, AreOperandsOf, FindsEachOperand, leave_by, place_in, Places, Builds, Stands}
 use Rattle.awk_resolve.proofs.Calculus.{assoc_at, later_same, later_in, first_same, given}
 use Rattle.awk_resolve.proofs.Building.{grows, extends, still, placed, at_once}
 use Rattle.awk_resolve.proofs.Elements.{deletes_element, clears_array}
@@ -58,9 +60,11 @@ unfolding printed_values
 same_values functions (Bare es) = refl
 same_values functions (Parenthesized es) = refl
 
-none_first : (functions : Functions) (k : List Value → Run Value) (s : State) → (eval_all functions [] Nil >>= k) s ≡ k [] s
-unfolding eval_all
-none_first functions k s = given [] k s
+-- a line of values, of which there is one at least, to standard output
+line_printed : (functions : Functions) (ws : List Value) → 0 < length ws → (rest : Run Value) (s : State) → (print_line 0 ws >>= λ _. rest) s ≡ (target_of functions Standard >>= λ to. print_by functions form.Print to ws >>= λ _. rest) s
+unfolding target_of
+line_printed functions [] h rest s = absurd (omega (arith, h))
+line_printed functions (w ∷ ws) h rest s = sym (given 0 (λ to. print_line to (w ∷ ws) >>= λ _. rest) s)
 
 -- a target that is evaluated, and then opened
 target_then : (functions : Functions) (way : Redirection) (x : Expr) (f : ℕ → Run Value) (s : State) → (target_of functions (Redirected way x) >>= f) s ≡ (eval functions x >>= λ w. open_target way (str_of w) >>= f) s
@@ -89,27 +93,38 @@ module _ {kinds : ProgramKinds} {parameters : List FormalParameter} where
       ∙ print_then functions (leave_by exits at vs) s form list Standard
       ∙ ap (λ (values : Run (List Value)). (spend >>= λ _. values >>= λ ws. target_of functions Standard >>= λ to. print_by functions form to ws >>= λ _. at exits.next vs) s) (same_values functions list))
 
-  -- a field whose number is read where it stands
-  pub field_print_built : {a b c d : Builder} {list : PrintList} {y : Expr} {operand : Operand} {exits : Exits} {i j : ℕ} → Stands exits.next a → listed list ≡ Cons (Field y) Nil → FindsAnOperand kinds parameters a b operand y → Pushes b c (n.PrintField operand exits.next) i
+  -- the values of operands, and what they go to
+  pub values_then : {B : Type 0} (p : Program kinds) {b : Builder} → Grows b p.all → (found : List Operand) (es : Exprs) → AreOperandsOf kinds parameters b found es → (rest : List Value → Run B) (m : ℕ) (s : State) → IsIn p.tables parameters m s
+      → (operand_values p.tables.names found >>= rest) s ≡ (eval_all p.functions [] es >>= rest) s
+  unfolding eval_all
+  values_then p g [] Nil are rest m s i = refl
+  values_then p g [] (Cons x es) are rest m s i = absurd are
+  values_then p g (a ∷ found) Nil are rest m s i = absurd are
+  values_then p g (a ∷ found) (Cons x es) are rest m s i =
+      let others = operand_values p.tables.names found in
+      assoc_at (operand_value p.tables.names a) (λ w. others >>= λ ws. ret (w ∷ ws)) rest s
+      ∙ first_same (operand_value p.tables.names a) (eval p.functions x) (λ w. (others >>= λ ws. ret (w ∷ ws)) >>= rest) s (are.0.is p g m s i)
+      ∙ later_in _ _ s m (keeps_eval p.functions p.calls.keep x) i (λ w t k.
+      assoc_at others (λ ws. ret (w ∷ ws)) rest t
+      ∙ later_same others _ (λ ws. rest (w ∷ ws)) t (λ ws u. given (w ∷ ws) rest u)
+      ∙ values_then p g found es are.1 (λ ws. rest (w ∷ ws)) m t k)
+      ∙ sym (all_first p.functions x es rest s)
+
+  -- operands that are read where they stand
+  pub operands_print_built : {a b c d : Builder} {list : PrintList} {found : Vec Operand} {exits : Exits} {i j : ℕ} → Stands exits.next a → 0 < count_of (listed list) → FindsEachOperand kinds parameters a b found.items (listed list) → Pushes b c (n.Print found exits.next) i
       → Pushes c d (n.Effect e.Spend i) j → Builds kinds parameters a d j (Execute (Simple (Print form.Print list Standard)) exits)
-  unfolding eval target_of
-  field_print_built {list = list} {y = y} {operand = operand} {exits = exits} h is f q r =
+  operands_print_built {list = list} {found = found} {exits = exits} h some f q r =
       let o = placed q (still f.extends h).below in
       let print : Functions → (ℕ → Cont) → List Value → List Value → Run Value = λ functions at vs ws. target_of functions Standard >>= λ to. print_by functions form.Print to ws >>= λ _. at exits.next vs in
       stepped (Execute (Simple (Print form.Print list Standard)) exits)
       (λ functions at vs. eval_all functions [] (listed list) >>= print functions at vs)
       (extends f.extends o.extends) r o.below
       (λ p g m vs s i.
-      let field = λ (x : Value). number_of x >>= λ k. read_field k in
-      let line = λ (w : Value). print_line 0 (w ∷ []) in
       let rest = λ (_ : Unit {0}). place_in p m exits.next vs in
       at_once (o.is p g m) vs s
-      ∙ assoc_at (field_at p.tables.names operand) line rest s
-      ∙ first_same (field_at p.tables.names operand) (eval p.functions (Field y)) (λ w. line w >>= rest) s (first_same (operand_value p.tables.names operand) (eval p.functions y) field s (f.is.is p (grows o.extends.grows g) m s i))
-      ∙ later_same (eval p.functions (Field y)) (λ w. line w >>= rest) (λ w. eval_all p.functions [] Nil >>= λ ws. print p.functions (place_in p m) vs (w ∷ ws)) s
-      (λ w t. sym (given 0 (λ to. print_line to (w ∷ []) >>= rest) t) ∙ sym (none_first p.functions (λ ws. print p.functions (place_in p m) vs (w ∷ ws)) t))
-      ∙ sym (all_first p.functions (Field y) Nil (print p.functions (place_in p m) vs) s)
-      ∙ ap (λ es. (eval_all p.functions [] es >>= print p.functions (place_in p m) vs) s) (sym is))
+      ∙ assoc_at (operand_values p.tables.names found.items) (λ ws. print_line 0 ws) rest s
+      ∙ values_then p (grows o.extends.grows g) found.items (listed list) f.are (λ ws. print_line 0 ws >>= rest) m s i
+      ∙ counted p.functions p.calls.keep (listed list) _ (print p.functions (place_in p m) vs) m s i (λ ws t long k. line_printed p.functions ws (omega (arith, long, some)) (place_in p m exits.next vs) t))
       (λ functions at vs s.
       simple_then functions (leave_by exits at vs) s (Print form.Print list Standard)
       ∙ print_then functions (leave_by exits at vs) s form.Print list Standard

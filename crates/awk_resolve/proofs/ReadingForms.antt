@@ -27,10 +27,10 @@ use Rattle.awk_resolve.proofs.InPlaceForms.{Strict, strict}
 use Rattle.awk_resolve.proofs.BuiltInForms.{values_taken}
 
 -- a state in which each name has the value that it had
-record SameNames (s t : State) : Type 0 where
-  frames : t.frames ≡ s.frames
-  variables : t.variables ≡ s.variables
-  current : t.current ≡ s.current
+pub record SameNames (s t : State) : Type 0 where
+  pub frames : t.frames ≡ s.frames
+  pub variables : t.variables ≡ s.variables
+  pub current : t.current ≡ s.current
 
 same_names : (s : State) → SameNames s s
 same_names s = record { frames = refl; variables = refl; current = refl }
@@ -39,7 +39,7 @@ names_then : {s t u : State} → SameNames s t → SameNames t u → SameNames s
 names_then e k = record { frames = k.frames ∙ e.frames; variables = k.variables ∙ e.variables; current = k.current ∙ e.current }
 
 pub record Reads {A : Type 0} (m : Run A) : Type 0 where
-  keeps : (s : State) → SameNames s (m s).state
+  pub keeps : (s : State) → SameNames s (m s).state
 
 go_reads : {A B : Type 0} (f : A → Run B) (s : State) → ((a : A) → Reads (f a)) → (r : Result A Halt) (t : State) (effects : List Effect) → SameNames s t → SameNames s (go_on r t effects f).state
 unfolding go_on
@@ -99,7 +99,7 @@ reads_choice : {A : Type 0} (b : Bool) {here other : Run A} → Reads here → R
 reads_choice true h k = h
 reads_choice false h k = k
 
-both : (a b : Bool) → (a && b) ≡ true → (a ≡ true) × (b ≡ true)
+pub both : (a b : Bool) → (a && b) ≡ true → (a ≡ true) × (b ≡ true)
 both true true e = (refl, refl)
 both true false e = absurd (cc)
 both false b e = absurd (cc)
@@ -113,11 +113,11 @@ reads_combined o e {left = left} {right = right} k h h' =
     reads_alike (λ s. sym (applied_strictly o k.no_and k.no_or k.no_match left right s e)) (reads_then h (λ x. reads_then h' (λ y. reads_lift (operated o x y))))
 
 -- a function of values alone
-record OfValues (g : BuiltInName) : Type 0 where
-  roles : roles_of g ≡ []
-  applies : (ws : List Value) → apply_built_in g (map OfValue ws) ≡ lift (applied_all g (map argument_value (map OfValue ws)))
+pub record OfValues (g : BuiltInName) : Type 0 where
+  pub roles : roles_of g ≡ []
+  pub applies : (ws : List Value) → apply_built_in g (map OfValue ws) ≡ lift (applied_all g (map argument_value (map OfValue ws)))
 
-values_alone : (g : BuiltInName) → is_of_values g ≡ true → OfValues g
+pub values_alone : (g : BuiltInName) → is_of_values g ≡ true → OfValues g
 unfolding apply_built_in
 values_alone f.Substr e = record { roles = refl; applies = λ ws. refl }
 values_alone f.Index e = record { roles = refl; applies = λ ws. refl }
@@ -179,10 +179,10 @@ parts_all e h = refl
 
 -- a name is read before what only reads, or behind it
 
-abbrev value_in : List ℕ → State → Value
+abbrev pub value_in : List ℕ → State → Value
 value_in x s = local_value (local_in s.frames x) (global_value s x)
 
-value_kept : (x : List ℕ) (s t : State) → SameNames s t → value_in x t ≡ value_in x s
+pub value_kept : (x : List ℕ) (s t : State) → SameNames s t → value_in x t ≡ value_in x s
 value_kept x s t e =
     ap (λ fs. local_value (local_in fs x) (global_value t x)) e.frames
     ∙ ap (λ (v : Value). local_value (local_in s.frames x) v)

@@ -16,6 +16,7 @@ use Rattle.awk_semantics.specs.definitions.Semantics.{Functions, choose, eval, k
 use Rattle.awk_semantics.proofs.KeepsForms.{keeps_spend, keeps_eval}
 use Rattle.awk_resolve.specs.declared.node.Node.TheVariants as n
 use Rattle.awk_resolve.specs.declared.node.EffectNode.TheVariants as e
+use Rattle.awk_resolve.specs.declared.node.Operand.TheVariants as operand
 use Rattle.awk_resolve.specs.declared.node.ValueNode.TheVariants as v
 use Rattle.awk_resolve.specs.declared.builder.Builder.{Builder}
 use Rattle.awk_resolve.specs.declared.builder.Exits.{Exits}
@@ -141,7 +142,7 @@ module _ {kinds : ProgramKinds} {parameters : List FormalParameter} where
       (λ w t j. at_once (u.is y (grows q.extends.grows g) m) (w ∷ vs) t ∙ later_same (set_status w) _ _ t (λ _ t'. at_once (o.is y (grows u.extends.grows (grows q.extends.grows g)) m) vs t')))
       (λ functions at vs s. simple_then functions (leave_by exits at vs) s (Exit (AnExpr x)) ∙ exit_with_then functions (leave_by exits at vs) s x)
 
-  pub return_built : {a b c d : Builder} {exits : Exits} {i j l : ℕ} → Pushes a b n.Return l → Pushes b c (n.Value (v.Push value.Nothing) l) i → Pushes c d (n.Effect e.Spend i) j → Builds kinds parameters a d j (Execute (Simple (Return NoExpr)) exits)
+  pub return_built : {a b c d : Builder} {exits : Exits} {i j l : ℕ} → Pushes a b n.Return l → Pushes b c (n.Value (v.Put (operand.Constant value.Nothing)) l) i → Pushes c d (n.Effect e.Spend i) j → Builds kinds parameters a d j (Execute (Simple (Return NoExpr)) exits)
   return_built {exits = exits} {l = l} p q r =
       let o = placed p tt in
       let u = placed q o.below in

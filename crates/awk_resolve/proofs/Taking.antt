@@ -81,7 +81,7 @@ module _ {kinds : ProgramKinds} {parameters : List FormalParameter} {a b : Build
 
   -- the nodes that test a value
   module _ {other : ℕ} (h : Stands next a) (h' : Stands other a) where
-    pub match_node : {number : ℕ} → Pushes a b (n.MatchRecord number next other) i → Takes kinds parameters a b i (tested next other) (λ p vs. value_of p.tables p.functions (v.RecordMatches number) vs) (λ vs. vs)
+    pub match_node : {text : Operand} {number : ℕ} → Pushes a b (n.Match text number next other) i → Takes kinds parameters a b i (tested next other) (λ p vs. value_of p.tables p.functions (v.Matches text number) vs) (λ vs. vs)
     match_node q = before h (placed q (h.below, h'.below)) (λ p again at. refl)
 
     pub compare_with_node : {o : BinaryOperator} {right : Operand} → Pushes a b (n.CompareWith o right next other) i

@@ -96,7 +96,7 @@ module _ {kinds : ProgramKinds} {parameters : List FormalParameter} where
   unfolding read_place store
   at_variable {p = p} g is = record { reads = λ n s i. is.reads p g n s i; stores = λ n w s i. is.puts p g n w s i }
 
-  at_element : {p : Program kinds} {a : Array} {x : List ℕ} {operand : Value} → IsArrayOf kinds parameters a x → IsAt p parameters (AnElement x (str_of operand)) (place.Element a) operand
+  pub at_element : {p : Program kinds} {a : Array} {x : List ℕ} {operand : Value} → IsArrayOf kinds parameters a x → IsAt p parameters (AnElement x (str_of operand)) (place.Element a) operand
   unfolding read_place store
   at_element {p = p} {a = a} {x = x} {operand = operand} is = record {
     reads = λ n s i. reads_element a x s (is.is p n s i) (str_of operand);

@@ -8,3 +8,4 @@ pub mod Readings
 pub mod Calls
 pub mod Printed
 pub mod Holding
+pub mod Targets

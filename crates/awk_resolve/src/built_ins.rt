@@ -4,12 +4,13 @@ ghost use Rattle.std.specs.Prelude.{◌≡◌, IfOk};
 ghost use Rattle.awk_grammar.specs.Tree as tree;
 ghost use Rattle.awk_grammar.specs.View.{exprs_of};
 ghost use Rattle.awk_resolve.specs.support.Builds.{Stands, Evaluate};
-ghost use Rattle.awk_resolve.specs.support.Operands.{split_by, takes_one, strict_node, substitution};
-ghost use Rattle.awk_resolve.specs.support.Scopes.{Builds};
+ghost use Rattle.awk_resolve.specs.support.Operands.{split_by, takes_one, reads_in_place, strict_node, substitution};
+ghost use Rattle.awk_resolve.specs.support.Scopes.{Builds, LowersValue};
 
 use crate::builder::{Builder, next_number};
 use crate::calls::name_in;
 use crate::node::{SplitBy, ValueNode};
+use crate::readings::is_read_behind;
 use crate::scope::Scope;
 use awk_grammar::tree::Expr;
 use awk_lex::token::BuiltIn;
@@ -32,6 +33,16 @@ fn takes_one(function: BuiltIn) -> bool
     match function {
         BuiltIn::Close => true,
         BuiltIn::System => true,
+        _ => false,
+    }
+}
+
+/// Whether the function is one of values alone that reads the first of them where they stand.
+fn reads_in_place(function: BuiltIn) -> bool
+    ensures { result ≡ reads_in_place function }
+{
+    match function {
+        BuiltIn::Substr | BuiltIn::Index => true,
         _ => false,
     }
 }
@@ -60,6 +71,10 @@ impl Builder {
             [e] => {
                 if let Some(array) = scope.measured(e) {
                     return self.push_value(ValueNode::CountElements(array), next);
+                }
+                if let Some(operands) = self.operands_of(scope, list)? {
+                    let length = ValueNode::ApplyTo(BuiltIn::Length, operands, 0);
+                    return self.push_value(length, next);
                 }
                 let length = self.push_value(ValueNode::Apply(BuiltIn::Length, 1), next)?;
                 self.lower(scope, e, length)
@@ -176,6 +191,9 @@ impl Builder {
             BuiltIn::Sub => self.lower_substitute(scope, false, list, next),
             BuiltIn::Gsub => self.lower_substitute(scope, true, list, next),
             _ => {
+                if let Some(place) = self.lower_in_place(scope, function, list, next)? {
+                    return Ok(place);
+                }
                 if takes_one(function) && list.len() != 1 {
                     return Err(AllocError);
                 }
@@ -184,5 +202,40 @@ impl Builder {
                 self.lower_all(scope, list, last)
             }
         }
+    }
+
+    /// A call of a function that reads operands where they stand: all its arguments, or the first where it may be read behind the others.
+    /// None of any other call.
+    #[cycle(expressions)]
+    fn lower_in_place(
+        &mut self,
+        scope: &Scope,
+        function: BuiltIn,
+        list: &[Expr],
+        next: u32,
+    ) -> Result<Option<u32>, AllocError>
+        requires { Stands next self.old }
+        ensures { IfOk result (λ place. LowersValue scope.now self.old self.new place (tree.BuiltIn function (exprs_of list.now)) next) }
+    {
+        if !reads_in_place(function) {
+            return Ok(None);
+        }
+        if let Some(operands) = self.operands_of(scope, list)? {
+            let place = self.push_value(ValueNode::ApplyTo(function, operands, 0), next)?;
+            return Ok(Some(place));
+        }
+        let Some((first, others)) = list.split_first() else {
+            return Ok(None);
+        };
+        if !is_read_behind(first, others) {
+            return Ok(None);
+        }
+        let Some(operand) = self.operands_of(scope, &list[..1])? else {
+            return Ok(None);
+        };
+        let count = next_number(others.len())?;
+        let last = self.push_value(ValueNode::ApplyTo(function, operand, count), next)?;
+        let place = self.lower_all(scope, others, last)?;
+        Ok(Some(place))
     }
 }

@@ -9,7 +9,7 @@ ghost use Rattle.awk_resolve.specs.support.Scopes.{LowersChange};
 
 use crate::appends::appended;
 use crate::builder::{Builder, Exits};
-use crate::node::{Node, Operand, ValueNode};
+use crate::node::{Node, Operand};
 use crate::scope::Scope;
 use awk_grammar::tree::Expr;
 use awk_lex::token::{AssignmentOperator, IncrementOperator};
@@ -49,8 +49,26 @@ impl Builder {
         Ok(Some(update))
     }
 
-    /// An assignment of any value to any place; none where it appends parts that may change variables.
+    /// An assignment of any value to any place, of which one that appends operands is one node.
     fn lower_assignment(
+        &mut self,
+        scope: &Scope,
+        o: AssignmentOperator,
+        place: &Expr,
+        right: &Expr,
+        exits: Exits,
+    ) -> Result<Option<u32>, AllocError>
+        requires { ExitsStand exits self.old }
+        ensures { IfOk result (λ place'. LowersChange scope.now self.old self.new place' (Assign o (expr_of place.now) (expr_of right.now)) exits) }
+    {
+        let Some(append) = self.lower_append_operands(scope, o, place, right, exits)? else {
+            return self.lower_any_assignment(scope, o, place, right, exits);
+        };
+        Ok(Some(append))
+    }
+
+    /// The same of one that is none of these; none where it appends parts that may change variables.
+    fn lower_any_assignment(
         &mut self,
         scope: &Scope,
         o: AssignmentOperator,
@@ -90,7 +108,7 @@ impl Builder {
         }
         let target = self.place_of(scope, place)?;
         let assign = self.push(Node::Assign(assigned_by_one(o), target, exits.next))?;
-        let one = self.push_value(ValueNode::Push(Value::Number(1)), assign)?;
+        let one = self.push_constant(Value::Number(1), assign)?;
         let operand = self.lower_operand(scope, place, one)?;
         let step = self.step(operand)?;
         Ok(Some(step))

@@ -1,6 +1,8 @@
 // Expressions that are tested, as nodes.
 
 ghost use Rattle.std.specs.Prelude.{◌≡◌, true, IfOk};
+ghost use Rattle.awk_lex.specs.declared.token.Operator.TheVariants.{Matches};
+ghost use Rattle.awk_grammar.specs.declared.tree.BinaryOperator.TheVariants.{Infix};
 ghost use Rattle.awk_grammar.specs.Tree.{Binary};
 ghost use Rattle.awk_grammar.specs.View.{expr_of};
 ghost use Rattle.awk_resolve.specs.support.Builds.{Stands, Decide};
@@ -9,9 +11,10 @@ ghost use Rattle.awk_resolve.specs.support.Scopes.{Builds};
 
 use crate::builder::Builder;
 use crate::expressions::{is_and, is_or, is_strict};
-use crate::node::Node;
+use crate::node::{Node, Operand};
 use crate::scope::Scope;
 use awk_grammar::tree::{BinaryOperator, Expr, UnaryOperator};
+use awk_lex::token::Operator;
 use std::alloc::AllocError;
 
 fn is_not(o: UnaryOperator) -> bool
@@ -45,7 +48,7 @@ impl Builder {
             Expr::Group(e) => self.lower_test(scope, e, here, other),
             Expr::Ere(ere) => {
                 let number = self.ere_of(&ere.text)?;
-                self.push(Node::MatchRecord(number, here, other))
+                self.push(Node::Match(Operand::Field(0), number, here, other))
             }
             Expr::Unary(o, e) if is_not(*o) => self.lower_test(scope, e, other, here),
             Expr::Binary(o, a, b) if is_and(*o) => {
@@ -56,6 +59,12 @@ impl Builder {
                 let second = self.lower_test(scope, b, here, other)?;
                 self.lower_test(scope, a, here, second)
             }
+            Expr::Binary(BinaryOperator::Infix(Operator::Matches), a, b) => {
+                self.lower_match_test(scope, a, b, here, other)
+            }
+            Expr::Binary(BinaryOperator::Infix(Operator::NotMatches), a, b) => {
+                self.lower_match_test(scope, a, b, other, here)
+            }
             Expr::Binary(o, a, b) if is_strict(*o) => {
                 self.lower_comparison(scope, *o, a, b, here, other)
             }
@@ -64,6 +73,31 @@ impl Builder {
                 self.lower(scope, e, test)
             }
         }
+    }
+
+    /// Whether a text has a match of a pattern is tested.
+    #[cycle(expressions)]
+    fn lower_match_test(
+        &mut self,
+        scope: &Scope,
+        a: &Expr,
+        b: &Expr,
+        here: u32,
+        other: u32,
+    ) -> Result<u32, AllocError>
+        requires here { Stands here self.old }
+        requires other { Stands other self.old }
+        ensures { IfOk result (λ place. Builds scope.now self.old self.new place (Decide (Binary (Infix Matches) (expr_of a.now) (expr_of b.now)) here other)) }
+    {
+        if let Expr::Ere(ere) = b
+            && let Some(operand) = self.operand_of(scope, a)?
+        {
+            let number = self.ere_of(&ere.text)?;
+            return self.push(Node::Match(operand, number, here, other));
+        }
+        let operator = BinaryOperator::Infix(Operator::Matches);
+        let test = self.push(Node::Test(here, other))?;
+        self.lower_binary(scope, operator, a, b, test)
     }
 
     /// What an operator makes of two values is tested.

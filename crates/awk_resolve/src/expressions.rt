@@ -12,7 +12,7 @@ ghost use Rattle.awk_resolve.specs.support.Parts.{is_concatenation, parts_of};
 ghost use Rattle.awk_resolve.specs.support.Scopes.{Builds};
 
 use crate::builder::{Builder, one_more};
-use crate::node::{Node, ValueNode};
+use crate::node::{Node, Operand, ValueNode};
 use crate::scope::Scope;
 use awk_grammar::tree::{BinaryOperator, Expr, UnaryOperator};
 use awk_lex::token::Operator;
@@ -94,12 +94,19 @@ impl Builder {
         self.push(Node::Value(node, next))
     }
 
+    /// A value of the program is put on the stack.
+    pub(crate) fn push_constant(&mut self, value: Value, next: u32) -> Result<u32, AllocError>
+        ensures { IfOk result (λ place. Pushes self.old self.new (Node.Value (ValueNode.Put (Operand.Constant value)) next) place) }
+    {
+        self.push_value(ValueNode::Put(Operand::Constant(value)), next)
+    }
+
     /// The places that put 1 and 0 on the stack.
     fn push_truths(&mut self, next: u32) -> Result<(u32, u32), AllocError>
         ensures { IfOk result (λ places. PushesTruths self.old self.new places.0 places.1 next) }
     {
-        let yes = self.push_value(ValueNode::Push(Value::Number(1)), next)?;
-        let no = self.push_value(ValueNode::Push(Value::Number(0)), next)?;
+        let yes = self.push_constant(Value::Number(1), next)?;
+        let no = self.push_constant(Value::Number(0), next)?;
         Ok((yes, no))
     }
 
@@ -113,14 +120,14 @@ impl Builder {
         ensures { IfOk result (λ place. Builds scope.now self.old self.new place (Evaluate (Name x.now) next)) }
     {
         let variable = self.variable_of(scope, x.as_slice())?;
-        self.push_value(ValueNode::Read(variable), next)
+        self.push_value(ValueNode::Put(Operand::Variable(variable)), next)
     }
 
     fn push_ere(&mut self, text: &Bytes, next: u32) -> Result<u32, AllocError>
-        ensures { IfOk result (λ place. PushesEre self.old self.new (λ i. ValueNode.RecordMatches i) text.now place next) }
+        ensures { IfOk result (λ place. PushesEre self.old self.new (λ i. ValueNode.Matches (Operand.Field 0) i) text.now place next) }
     {
         let number = self.ere_of(text)?;
-        self.push_value(ValueNode::RecordMatches(number), next)
+        self.push_value(ValueNode::Matches(Operand::Field(0), number), next)
     }
 
     /// The value of an expression is put on the stack. What it needs is built behind it, so nodes are pushed from the end.
@@ -134,10 +141,8 @@ impl Builder {
         ensures { IfOk result (λ place. Builds scope.now self.old self.new place (Evaluate (expr_of e.now) next)) }
     {
         match e {
-            Expr::Number(n) => self.push_value(ValueNode::Push(Value::Number(*n)), next),
-            Expr::String(bytes) => {
-                self.push_value(ValueNode::Push(Value::Text(bytes.clone()?)), next)
-            }
+            Expr::Number(n) => self.push_constant(Value::Number(*n), next),
+            Expr::String(bytes) => self.push_constant(Value::Text(bytes.clone()?), next),
             Expr::Ere(ere) => self.push_ere(&ere.text, next),
             Expr::Name(x) => self.push_name(scope, x, next),
             Expr::Length => self.push_value(ValueNode::RecordLength, next),
@@ -329,11 +334,11 @@ impl Builder {
         requires { Stands next self.old }
         ensures { IfOk result (λ place. Builds scope.now self.old self.new place (Evaluate (Field (expr_of number.now)) next)) }
     {
-        let Some(operand) = self.operand_of(scope, number)? else {
+        let Some(operand) = self.field_operand(scope, number)? else {
             let read = self.push_value(ValueNode::ReadField, next)?;
             return self.lower(scope, number, read);
         };
-        self.push_value(ValueNode::ReadFieldAt(operand), next)
+        self.push_value(ValueNode::Put(operand), next)
     }
 
     /// The values of the parts of a concatenation are put on the stack, or that of another expression.

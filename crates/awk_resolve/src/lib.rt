@@ -2,6 +2,7 @@
 #![tactic(auto)]
 
 mod appends;
+mod appends_in_place;
 mod assignments;
 pub mod builder;
 mod built_ins;

@@ -33,15 +33,27 @@ pub enum Source {
 pub enum Operand {
     Constant(Value),
     Variable(Variable),
+    /// The field of a number of the program.
+    Field(u32),
+    /// The field whose number a variable holds.
+    FieldAt(Variable),
+}
+
+/// A place that needs nothing from the stack.
+#[derive(Drop)]
+pub enum Target {
+    Variable(Variable),
+    /// The element at an operand.
+    Element(Array, Operand),
 }
 
 /// What takes values off the stack and puts one on it. The operand that was evaluated last is the topmost.
 #[derive(Drop)]
 pub enum ValueNode {
-    Push(Value),
-    Read(Variable),
-    /// Whether the record has a match of an ERE of the program, by its number.
-    RecordMatches(u32),
+    /// What is read where it stands.
+    Put(Operand),
+    /// Whether what is read where it stands has a match of an ERE of the program, by its number.
+    Matches(Operand, u32),
     Operate(BinaryOperator),
     /// The right operand is read where it stands.
     OperateWith(BinaryOperator, Operand),
@@ -53,8 +65,6 @@ pub enum ValueNode {
     MatchesEre(Operator, u32),
     Change(UnaryOperator),
     ReadField,
-    /// The field whose number is read where it stands.
-    ReadFieldAt(Operand),
     ReadElement(Array),
     Contains(Array),
     /// Several subscripts as one text.
@@ -73,6 +83,8 @@ pub enum ValueNode {
     CountElements(Array),
     /// A built-in function of so many values.
     Apply(BuiltIn, u32),
+    /// The same of operands that are read where they stand, with so many values behind them.
+    ApplyTo(BuiltIn, Vec<Operand>, u32),
     Match(Option<u32>),
     Split(Array, SplitBy),
     /// `gsub`, or else `sub`; by an ERE or a text on the stack; in a place or in the record.
@@ -117,8 +129,8 @@ pub enum Node {
     CompareWith(BinaryOperator, Operand, u32, u32),
     /// The same of what an operator makes of two operands.
     Compare(BinaryOperator, Operand, Operand, u32, u32),
-    /// The same of whether the record has a match of an ERE of the program.
-    MatchRecord(u32, u32, u32),
+    /// The same of whether an operand has a match of an ERE of the program.
+    Match(Operand, u32, u32, u32),
     /// The same of whether a range is inside, by the number of its item.
     TestInside(u32, u32, u32),
     /// Assigns the topmost value to a place, whose operand lies below it; both are taken off.
@@ -131,8 +143,10 @@ pub enum Node {
     Increment(IncrementOperator, Variable, u32),
     /// Assigns a variable its text with those of so many values behind it, and takes these off.
     AppendTo(Variable, u32, u32),
-    /// Prints the field whose number is read where it stands, as a line to standard output.
-    PrintField(Operand, u32),
+    /// Spends a step, and assigns a target its text with those of operands behind it.
+    AppendOperands(Target, Vec<Operand>, u32),
+    /// Prints operands, of which there is one at least, as a line to standard output.
+    Print(Vec<Operand>, u32),
     /// A turn of a loop, whose body's place is known by the loop's number.
     Again(u32),
     /// Puts the keys of an array and their count on the stack.

@@ -72,7 +72,7 @@ impl Builder {
         ensures { IfOk result (λ place. Builds scope.now self.old self.new place (EvaluateOperand (Field (expr_of e.now)) next)) }
     {
         if let Expr::Number(n) = e {
-            return self.push_value(ValueNode::Push(Value::Number(*n)), next);
+            return self.push_constant(Value::Number(*n), next);
         }
         let number = self.push_value(ValueNode::FieldNumber, next)?;
         self.lower(scope, e, number)

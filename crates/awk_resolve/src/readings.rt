@@ -2,7 +2,7 @@
 
 ghost use Rattle.std.specs.Prelude.{◌≡◌, true};
 ghost use Rattle.awk_grammar.specs.View.{expr_of, exprs_of};
-ghost use Rattle.awk_resolve.specs.support.Readings.{is_of_values, only_reads, all_read, parts_read};
+ghost use Rattle.awk_resolve.specs.support.Readings.{is_of_values, only_reads, all_read, parts_read, is_field_number, is_read_behind};
 
 use crate::expressions::is_strict;
 use awk_grammar::tree::{BinaryOperator, Expr};
@@ -51,6 +51,28 @@ fn all_read(list: &[Expr]) -> bool
         }
     }
     true
+}
+
+/// Whether an expression may be read behind others: its value is that of a constant, a variable or a field of a number of the program,
+/// and they only read.
+pub(crate) fn is_read_behind(e: &Expr, list: &[Expr]) -> bool
+    ensures { result ≡ true → is_read_behind (expr_of e.now) (exprs_of list.now) ≡ true }
+{
+    match e {
+        Expr::Number(_) | Expr::String(_) | Expr::Name(_) => all_read(list),
+        Expr::Field(number) => is_field_number(number) && all_read(list),
+        _ => false,
+    }
+}
+
+/// Whether an expression is a number of the program that fields have.
+fn is_field_number(e: &Expr) -> bool
+    ensures { result ≡ true → is_field_number (expr_of e.now) ≡ true }
+{
+    match e {
+        Expr::Number(n) => *n >= 0,
+        _ => false,
+    }
 }
 
 /// Whether the parts of a concatenation behind its first only read.

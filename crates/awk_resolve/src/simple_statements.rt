@@ -10,7 +10,7 @@ ghost use Rattle.awk_resolve.specs.support.Printed.{listed};
 ghost use Rattle.awk_resolve.specs.support.Scopes.{Builds, LowersPrint};
 
 use crate::builder::{Builder, Exits, next_number};
-use crate::node::{EffectNode, Node, ValueNode};
+use crate::node::{EffectNode, Node};
 use crate::scope::Scope;
 use awk_grammar::tree::{Expr, Output, PrintForm, PrintList, SimpleStatement};
 use awk_value::{Bytes, Value};
@@ -47,8 +47,8 @@ impl Builder {
         self.step(value)
     }
 
-    /// A print of a field whose number is read where it stands, to standard output; none of any other one.
-    fn lower_field_print(
+    /// A print of what is all read where it stands, to standard output; none of any other one.
+    fn lower_operand_print(
         &mut self,
         scope: &Scope,
         form: PrintForm,
@@ -61,16 +61,14 @@ impl Builder {
         let PrintForm::Print = form else {
             return Ok(None);
         };
-        let [e] = listed(list) else {
+        let list = listed(list);
+        if list.is_empty() {
+            return Ok(None);
+        }
+        let Some(operands) = self.operands_of(scope, list)? else {
             return Ok(None);
         };
-        let Expr::Field(number) = e else {
-            return Ok(None);
-        };
-        let Some(operand) = self.operand_of(scope, number)? else {
-            return Ok(None);
-        };
-        let print = self.push(Node::PrintField(operand, exits.next))?;
+        let print = self.push(Node::Print(operands, exits.next))?;
         let step = self.step(print)?;
         Ok(Some(step))
     }
@@ -86,7 +84,7 @@ impl Builder {
         requires { ExitsStand exits self.old }
         ensures { IfOk result (λ place. Builds scope.now self.old self.new place (Execute (Simple (Print form (print_list_of list.now) Standard)) exits)) }
     {
-        if let Some(place) = self.lower_field_print(scope, form, list, exits)? {
+        if let Some(place) = self.lower_operand_print(scope, form, list, exits)? {
             return Ok(place);
         }
         let list = listed(list);
@@ -198,7 +196,7 @@ impl Builder {
         let back = self.push(Node::Return)?;
         match e {
             None => {
-                let value = self.push(Node::Value(ValueNode::Push(Value::Nothing), back))?;
+                let value = self.push_constant(Value::Nothing, back)?;
                 self.step(value)
             }
             Some(e) => {

@@ -1,5 +1,5 @@
 -- The rules of a plan do nothing on records that they don't want, and these are passed over.
-use Rattle.std.proofs.Common.{◌≡◌, ℕ, false, List, [], ◌++◌, slice_get, Option, Some, None, Result, Ok, Err, IfSome, refl, sym, subst, ap, ◌∙◌, arith}
+use Rattle.std.proofs.Common.{◌≡◌, ℕ, pos, false, List, [], ◌++◌, slice_get, Option, Some, None, Result, Ok, Err, IfSome, refl, sym, subst, ap, ◌∙◌, arith}
 use Rattle.awk_value.specs.declared.value.Value.{Value}
 use Rattle.awk_value.specs.declared.value.Value.TheVariants as value
 use Rattle.awk_value.specs.Values.{truth_of}
@@ -11,12 +11,13 @@ use Rattle.awk_kinds.specs.definitions.Kinds.{definitions_of}
 use Rattle.awk_semantics.specs.declared.halt.Halt.{Halt}
 use Rattle.awk_semantics.specs.definitions.State.{Frame, State, Out, Run, gives, go_on, ◌>>=◌, lift, ret}
 use Rattle.awk_semantics.specs.definitions.Operators.{pattern_in, of_match, applied, truth_value}
-use Rattle.awk_semantics.specs.definitions.Primitives.{record_text, without_calls, outside_calls}
+use Rattle.awk_semantics.specs.definitions.Primitives.{read_field, without_calls, outside_calls}
 use Rattle.awk_semantics.specs.definitions.Semantics.{choose}
 use Rattle.awk_semantics.specs.definitions.Calls.{functions_within}
 use Rattle.awk_semantics.specs.definitions.Items.{unless_next, until_next}
 use Rattle.awk_functions.specs.Matched.{matched}
 use Rattle.awk_resolve.specs.declared.plan.Plan.{Plan}
+use Rattle.awk_resolve.specs.declared.node.Operand.TheVariants as operand
 use Rattle.awk_resolve.specs.declared.node.Node.TheVariants as node
 use Rattle.awk_resolve.specs.declared.node.ValueNode.TheVariants as v
 use Rattle.awk_resolve.specs.definitions.Nodes.{Cont, IsOrdered, value_of, ere_at as ere_in}
@@ -42,8 +43,8 @@ lift_gives : {A : Type 0} (r : Result A Halt) (a : A) (s : State) → r ≡ Ok a
 unfolding lift
 lift_gives r a s e = ap (λ (x : Result _ Halt). record { result = x; state = s; effects = [] }) e
 
-text_gives : (s : State) → record_text s ≡ gives (value.Input s.current.text) s
-unfolding record_text
+text_gives : (s : State) → read_field (pos 0) s ≡ gives (value.Input s.current.text) s
+unfolding read_field
 text_gives s = refl
 
 -- a pattern that has no match
@@ -58,13 +59,13 @@ module _ (items : List Item) (plan : Plan) (n : ℕ) (ordered : IsOrdered plan.n
   end_gives k s is = ap (λ (c : Cont). c [] s) (node_at (tables_of items plan) (functions_within (definitions_of items) n) plan.heads.items plan.nodes.items n k node.End ordered is)
 
   -- an ERE that has no match in the record, and then nothing
-  match_gives : (k ere here other : ℕ) (s : State) → slice_get plan.nodes.items k ≡ Some (node.MatchRecord ere here other) → IsEnd plan other
+  match_gives : (k ere here other : ℕ) (s : State) → slice_get plan.nodes.items k ≡ Some (node.Match (operand.Field 0) ere here other) → IsEnd plan other
       → matched (pattern_in (ere_in (tables_of items plan) ere)) s.current.text ≡ Ok false → place_in items plan n k s ≡ gives value.Nothing s
   match_gives k ere here other s is is_end none =
       let pattern : List ℕ = ere_in (tables_of items plan) ere in
-      ap (λ (c : Cont). c [] s) (node_at (tables_of items plan) (functions_within (definitions_of items) n) plan.heads.items plan.nodes.items n k (node.MatchRecord ere here other) ordered is)
-      ∙ gives_then (value_of (tables_of items plan) (functions_within (definitions_of items) n) (v.RecordMatches ere) []) (λ x. choose (truth_of x) (place_in items plan n here) (place_in items plan n other)) (truth_value false) value.Nothing s
-      (gives_then record_text (λ x. lift (applied Matches x (value.Text pattern))) (value.Input s.current.text) (truth_value false) s (text_gives s)
+      ap (λ (c : Cont). c [] s) (node_at (tables_of items plan) (functions_within (definitions_of items) n) plan.heads.items plan.nodes.items n k (node.Match (operand.Field 0) ere here other) ordered is)
+      ∙ gives_then (value_of (tables_of items plan) (functions_within (definitions_of items) n) (v.Matches (operand.Field 0) ere) []) (λ x. choose (truth_of x) (place_in items plan n here) (place_in items plan n other)) (truth_value false) value.Nothing s
+      (gives_then (read_field (pos 0)) (λ x. lift (applied Matches x (value.Text pattern))) (value.Input s.current.text) (truth_value false) s (text_gives s)
       (lift_gives (of_match (λ b. b) s.current.text (pattern_in pattern)) (truth_value false) s (not_matched (pattern_in pattern) s.current.text none)))
       (end_gives other s is_end)
 
@@ -84,7 +85,7 @@ none_wanted {plan = plan} is = record {
 }
 
 -- the one rule has an ERE as its pattern
-pub unmatched_unwanted : {plan : Plan} {ere here other : ℕ} → slice_get plan.nodes.items plan.rules ≡ Some (node.MatchRecord ere here other) → IsEnd plan other → RulesIgnore plan (Unmatched ere)
+pub unmatched_unwanted : {plan : Plan} {ere here other : ℕ} → slice_get plan.nodes.items plan.rules ≡ Some (node.Match (operand.Field 0) ere here other) → IsEnd plan other → RulesIgnore plan (Unmatched ere)
 unmatched_unwanted {plan = plan} {ere = ere} {here = here} {other = other} is is_end = record {
   ignores = λ items names for n s outside unwanted.
       part_gives (place_in items plan n) plan.rules value.Nothing s

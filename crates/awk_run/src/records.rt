@@ -11,7 +11,7 @@ ghost use Rattle.awk_evaluator.specs.Moves.{IsIdle};
 use crate::items::try_until_next;
 use awk_evaluator::Machine;
 use awk_resolve::Plan;
-use awk_resolve::node::Node;
+use awk_resolve::node::{Node, Operand};
 use awk_runtime::Unwanted;
 use awk_semantics::Halt;
 use awk_streams::World;
@@ -22,7 +22,9 @@ fn unwanted_by(plan: &Plan) -> Option<Unwanted>
 {
     match plan.nodes.get(plan.rules as usize)? {
         Node::End => Some(Unwanted::All),
-        Node::MatchRecord(ere, _, other) if is_end(plan, *other) => Some(Unwanted::Unmatched(*ere)),
+        Node::Match(Operand::Field(0), ere, _, other) if is_end(plan, *other) => {
+            Some(Unwanted::Unmatched(*ere))
+        }
         _ => None,
     }
 }

@@ -18,16 +18,17 @@ use Rattle.awk_semantics.specs.Results.{Sort, WantOfMemory, FailedWrite, OfLangu
 use Rattle.awk_semantics.specs.Primitives.{put_outside, with_variable}
 use Rattle.awk_storage.specs.declared.position.Variable.{Variable}
 use Rattle.awk_storage.specs.declared.position.Variable.TheVariants as variable
+use Rattle.awk_storage.specs.declared.position.Place.TheVariants as place
 use Rattle.awk_storage.specs.support.Frames.{newest_of, with_value_at}
 use Rattle.awk_storage.specs.Positions.{newest_locals, put_local, put_slot, put_variable, read_variable, assign_at, assign_by_at}
 use Rattle.awk_runtime.specs.declared.runtime.Runtime.{Runtime}
 use Rattle.awk_runtime.specs.support.Simulation.{OwnRelation, StreamsRelation, StateRelation, ResultRelationBy, ResultRelation, Changes}
 use Rattle.awk_runtime.specs.support.Naming.{Naming, AreOwn}
-use Rattle.awk_runtime.specs.support.Appends.{appended, LetsGo, AppendsText}
+use Rattle.awk_runtime.specs.support.Appends.{appended, LetsGo, AppendsText, AppendsAt}
 use Rattle.awk_runtime.proofs.Composition.{then_changes, ends_changes, lift_changes}
 use Rattle.awk_runtime.proofs.Steps.{same_changes}
 use Rattle.awk_runtime.proofs.VariableWords.{SameButVariables, SameButFrames, plain, slot_read, slot_given, frames_after, with_local-is, local_given}
-use Rattle.awk_runtime.proofs.PlaceWords.{get-set}
+use Rattle.awk_runtime.proofs.PlaceWords.{get-set, assigned, plainly_assigned}
 
 -- the same, with values of variables that are spelled in another way
 
@@ -201,4 +202,16 @@ slot_appended i before behind {old = old} {new = new} at own distinct put specia
       appends = is_appended (variable.Global i) before behind (keeps_hold (variable.Global i) old)
           (slot_given i after within own distinct put specials same)
           (slot_read i new (subst (λ (n : Naming). AreOwn n.scalars) (sym same.names) own) (ap (λ l. slice_get l i) put ∙ get-set old.globals.items i after within));
+    }
+
+pub slot_appended_at : (i : ℕ) (before : Value) (behind : List ℕ) {old new : Runtime} → slice_get old.globals.items i ≡ Some before → AreOwn old.names.scalars → AreDistinct old.names.scalars → new.globals.items ≡ set old.globals.items i (value.Text (str_of before ++ behind)) → new.specials ≡ old.specials → SameButVariables old new → (operand : Value) → AppendsAt (place.Variable (variable.Global i)) operand behind old new
+slot_appended_at i before behind {old = old} {new = new} at own distinct put specials same operand =
+    let after : Value = value.Text (str_of before ++ behind) in
+    let within = slice_get_within old.globals.items i before at in
+    record {
+      before = before;
+      read = slot_read i old own at;
+      after = after;
+      appends = plainly_assigned (place.Variable (variable.Global i)) operand after (assigned (place.Variable (variable.Global i)) operand after (slot_given i after within own distinct put specials same)
+          (slot_read i new (subst (λ (n : Naming). AreOwn n.scalars) (sym same.names) own) (ap (λ l. slice_get l i) put ∙ get-set old.globals.items i after within)));
     }

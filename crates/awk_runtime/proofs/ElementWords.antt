@@ -20,6 +20,7 @@ use Rattle.awk_storage.specs.support.Tables.{array_of}
 use Rattle.awk_runtime.specs.declared.places.Updated.{Updated}
 use Rattle.awk_runtime.specs.declared.runtime.Runtime.{Runtime}
 use Rattle.awk_runtime.specs.support.Simulation.{Changes}
+use Rattle.awk_runtime.specs.support.Appends.{AppendsAt}
 use Rattle.awk_runtime.specs.support.Calling.{kept_number}
 use Rattle.awk_runtime.specs.support.Updates.{Updates, ChangesValue, Gives}
 use Rattle.awk_runtime.proofs.ArrayWords.{key_there, set_itself, element_read, element_there, element_stored}
@@ -140,6 +141,17 @@ module _ (m : Runtime) (a : Array) (operand : Value) (n : ℕ) (number : n ≡ k
 
   pub element_assigned : (v : Value) {xs : List Elements} → xs ≡ slice_set m.arrays n (with_pair (array_of m.arrays n) (str_of operand) v) → Gives (assign_by_at m.names.scalars None (place.Element a) operand v) m (Ok tt) (record m { arrays = xs })
   element_assigned v {xs = xs} made = record { gives = (unwrap_or (value_at (array_of xs n) (str_of operand)) value.Nothing, plainly_assigned (place.Element a) operand v (element_put v made)) }
+
+  -- a text that grows where it stands
+  pub element_appended : (before : Value) (behind : List ℕ) {xs : List Elements} → Some before ≡ value_at (array_of m.arrays n) (str_of operand) → xs ≡ slice_set m.arrays n (with_pair (array_of m.arrays n) (str_of operand) (value.Text (str_of before ++ behind))) → AppendsAt (place.Element a) operand behind m (record m { arrays = xs })
+  element_appended before behind {xs = xs} at put =
+      let after : Value = value.Text (str_of before ++ behind) in
+      record {
+        before = before;
+        read = element_there m a (str_of operand) n number at;
+        after = unwrap_or (value_at (array_of xs n) (str_of operand)) value.Nothing;
+        appends = plainly_assigned (place.Element a) operand after (element_put after put);
+      }
 
   -- numbers that are changed where they stand
 

@@ -14,11 +14,13 @@ pub mod NameWords
 pub mod ElementWords
 mod EndWords
 pub mod PlaceWords
+pub mod FieldWords
 pub mod NumberWords
 pub mod AppendWords
 pub mod Turns
 pub mod Flushes
 pub mod Prints
+pub mod SameStates
 pub mod Openings
 pub mod CallLemmas
 pub mod StartLemmas

@@ -1,5 +1,5 @@
 -- What printing does to the state of a run.
-use Rattle.std.proofs.Common.{rules, map, ◌≡◌, ◌==◌, Bool, true, false, ℕ, List, [], ◌∷◌, ◌++◌, length, Option, Some, Result, Ok, Err, IfErr, inl, inr, refl, sym, ap, ◌∙◌, subst, arith}
+use Rattle.std.proofs.Common.{rules, map, ◌≡◌, ◌==◌, Bool, true, false, ℕ, pos, List, [], ◌∷◌, ◌++◌, length, Option, Some, Result, Ok, Err, IfErr, inl, inr, refl, sym, ap, ◌∙◌, subst, arith}
 use Rattle.std.specs.Prelude.{if◌then◌else◌}
 use Rattle.awk_value.specs.declared.value.Value.{Value}
 use Rattle.awk_value.specs.Values.{str_of}
@@ -20,10 +20,11 @@ use Rattle.awk_streams.proofs.ViewLemmas.{not_marked}
 use Rattle.awk_semantics.specs.declared.halt.Halt.{Halt}
 use Rattle.awk_semantics.specs.declared.halt.Halt.TheVariants as halt
 use Rattle.awk_semantics.specs.declared.fault.Fault.TheVariants as faults
-use Rattle.awk_semantics.specs.State.{Effect, Printed, State, Run, ◌>>=◌, lift, ret}
+use Rattle.awk_semantics.specs.State.{Effect, Printed, State, Run, ◌>>=◌, go_on, lift, ret}
 use Rattle.awk_semantics.specs.Results.{sort_of, YieldsBy}
-use Rattle.awk_semantics.specs.Operators.{line_of, join}
-use Rattle.awk_semantics.specs.Primitives.{print_bytes, print_line, format_values}
+use Rattle.awk_record.specs.Record.{joined, joined_behind}
+use Rattle.awk_semantics.specs.Operators.{line_of, join, join_rest}
+use Rattle.awk_semantics.specs.Primitives.{print_bytes, print_line, format_values, record_text, read_field}
 use Rattle.awk_semantics.specs.Semantics.{Functions, print_by}
 use Rattle.awk_grammar.specs.declared.tree.PrintForm.TheVariants as form
 use Rattle.awk_semantics.specs.Meaning.{with_bytes, first_outputs, outputs_after, requests_from}
@@ -33,7 +34,7 @@ use Rattle.awk_kinds.specs.declared.special.Special.TheVariants.{Ofs, Ors}
 use Rattle.awk_kinds.specs.Variables.{value_of, name_of}
 use Rattle.awk_runtime.specs.declared.runtime.Runtime.{Runtime}
 use Rattle.awk_runtime.specs.support.Simulation.{OwnRelation, main_number, stage_of, StreamsRelation, StateRelation, FailureRelation, ResultRelation, SimulatesLogged, Changes, Follows, Beside, SameState, halted}
-use Rattle.awk_runtime.specs.support.Printing.{PrintsTo, OpensTarget}
+use Rattle.awk_runtime.specs.support.Printing.{PrintsTo, OpensTarget, print_at, print_field_at}
 use Rattle.awk_runtime.proofs.Composition.{then_logged, ends_logged, lift_logged, memory_changes}
 use Rattle.awk_runtime.proofs.Effects.{turn_between}
 use Rattle.awk_runtime.proofs.Steps.{beside_holds, reads_changes}
@@ -141,6 +142,15 @@ values_printed r to vs bytes {old = old} {new = new} {before = before} {after = 
       (print_logged r to (line_in old vs) n beside place (subst (λ (l : List ℕ). Prints to l before old.streams r after new.streams) line (told t)) fault);
 }
 
+-- the text that a record's fields make
+rest_joined : (between : List ℕ) (vs : List Value) → join_rest between (map str_of vs) ≡ joined_behind between vs
+rest_joined between [] = refl
+rest_joined between (v ∷ vs) = ap (λ l. (between ++ str_of v) ++ l) (rest_joined between vs)
+
+pub fields_joined : (between : List ℕ) (vs : List Value) → join between (map str_of vs) ≡ joined between vs
+fields_joined between [] = refl
+fields_joined between (v ∷ vs) = ap (λ l. str_of v ++ l) (rest_joined between vs)
+
 -- the line of one text
 pub line_of_text : (between behind text end : List ℕ) (vs : List Value) → join between (map str_of vs) ≡ text → behind ≡ end → text ++ end ≡ line_of between behind vs
 line_of_text between behind text end vs is ends = rw (is, ends) refl
@@ -214,6 +224,14 @@ pub printed_to_output : {is_logged : Type 0} (run : ℕ → Run (Unit {0})) {old
 printed_to_output run {old = old} {before = before} p = record {
   simulates = record { steps = p.steps; names = p.names; told = λ t. then_logged run (lift_logged (Ok 0) old before refl) (p.told t 0 refl) };
 }
+
+-- field 0 is the record
+whole_record : (functions : Functions) → print_at functions (ret 0) form.Print [] ≡ print_field_at functions (pos 0)
+unfolding ◌>>=◌ go_on lift record_text read_field
+whole_record functions = refl
+
+pub whole_printed : {is_logged : Type 0} (functions : Functions) {old new : Runtime} {before after : WorldState} {r : Result (Unit {0}) Halt} → Follows is_logged (print_at functions (ret 0) form.Print []) old before new after r → Follows is_logged (print_field_at functions (pos 0)) old before new after r
+whole_printed {is_logged = is_logged} functions {old = old} {new = new} {before = before} {after = after} {r = r} p = subst (λ (run : Run (Unit {0})). Follows is_logged run old before new after r) (whole_record functions) p
 
 pub opened_and_printed : {is_logged : Type 0} {opens : Run ℕ} (run : ℕ → Run (Unit {0})) {to : Target} {old mid new : Runtime} {before between after : WorldState} {r : Result (Unit {0}) Halt} → OpensTarget is_logged opens old before mid between (Ok to)
     → PrintsTo is_logged to run mid between new after r → Follows is_logged (opens >>= run) old before new after r

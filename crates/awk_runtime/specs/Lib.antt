@@ -5,4 +5,5 @@ pub use Rattle.awk_runtime.specs.support.Simulation
 pub use Rattle.awk_runtime.specs.support.Calling
 pub use Rattle.awk_runtime.specs.support.Beginning
 pub use Rattle.awk_runtime.specs.support.Appends
+pub use Rattle.awk_runtime.specs.support.Lines
 pub use Rattle.awk_runtime.specs.support.Passing

@@ -7,6 +7,7 @@ pub mod Updates
 pub mod Counting
 pub mod Printing
 pub mod Appends
+pub mod Lines
 pub mod Operands
 pub mod Inputs
 pub mod NamedInputs

@@ -1,18 +1,36 @@
 // Texts that are appended to variables.
 
-ghost use Rattle.std.specs.Prelude.{◌≡◌, map, true, false, Ok, Err, IfErr};
+ghost use Rattle.std.specs.Prelude.{◌≡◌, ◌++◌, map, true, false, Ok, Err, OnOk, IfErr};
 ghost use Rattle.std.specs.List.{concat};
 ghost use Rattle.awk_value.specs.Values.{str_of};
 ghost use Rattle.awk_value.specs.declared.value.Value.{Value as AnyValue};
 ghost use Rattle.awk_semantics.specs.State.{Run};
-ghost use Rattle.awk_runtime.specs.support.Appends.{LetsGo, AppendsText, appended};
+ghost use Rattle.awk_storage.specs.declared.position.Place.TheVariants.{Variable as VariablePlace, Element};
+ghost use Rattle.awk_runtime.specs.support.Appends.{LetsGo, AppendsText, AppendsAt, appended};
 ghost use Rattle.awk_runtime.specs.support.Simulation.{Changes};
 
 use crate::runtime::Runtime;
 use awk_functions::{append, append_each};
 use awk_semantics::Halt;
-use awk_storage::Variable;
-use awk_value::Value;
+use awk_storage::{Array, Variable};
+use awk_value::{Value, ValueFault, text_of};
+use std::alloc::Global;
+
+// Appends bytes to the text of a value, which so becomes a text that was made. The fault is `Memory`.
+#[inline(always)]
+fn append_bytes(alloc: Global, value: &mut Value, bytes: &[u8]) -> Result<(), ValueFault>
+    ensures text { OnOk result (value.new ≡ AnyValue.Text (str_of value.old ++ bytes.now)) }
+    ensures fault { IfErr result (λ fault. fault ≡ ValueFault.Memory) }
+{
+    if let Value::Text(text) = value {
+        text.extend_from_slice(alloc, bytes)?;
+        return Ok(());
+    }
+    let mut text = text_of(alloc, value)?;
+    text.extend_from_slice(alloc, bytes)?;
+    *value = Value::Text(text);
+    Ok(())
+}
 
 impl Runtime {
     /// Gives a variable the text of a value that it held, with that of another one behind it; gives what it then holds. The text
@@ -50,6 +68,42 @@ impl Runtime {
             return Ok(false);
         }
         append_each(self.alloc, &mut self.globals[slot], parts)?;
+        Ok(true)
+    }
+
+    /// Appends bytes to the text of what a variable of the program holds, where it stands: whether it is such a variable, and else
+    /// nothing changes. A text that was made grows in its own memory, where nothing shares it. The fault is F1. (POSIX awk,
+    /// Expressions in awk: string concatenation)
+    #[inline(always)]
+    pub fn append_bytes_to(&mut self, variable: &Variable, bytes: &[u8]) -> Result<bool, Halt>
+        ensures appends { result ≡ Ok true → (operand : AnyValue) → AppendsAt (VariablePlace variable.now) operand bytes.now self.old self.new }
+        ensures kept { result ≡ Ok false → self.new ≡ self.old }
+        ensures refused { IfErr result (λ halt. (run : Run AnyValue) → Changes run self.old self.new (Err halt)) }
+    {
+        let Variable::Global(slot) = variable else {
+            return Ok(false);
+        };
+        self.names.law_of_slots();
+        let slot = *slot as usize;
+        if slot >= self.globals.len() {
+            return Ok(false);
+        }
+        append_bytes(self.alloc, &mut self.globals[slot], bytes)?;
+        Ok(true)
+    }
+
+    /// The same of the element at the text of a key, if it is there.
+    #[inline(always)]
+    pub fn append_bytes_in(&mut self, array: Array, key: &Value, bytes: &[u8]) -> Result<bool, Halt>
+        ensures appends { result ≡ Ok true → AppendsAt (Element array) key.now bytes.now self.old self.new }
+        ensures kept { result ≡ Ok false → self.new ≡ self.old }
+        ensures refused { IfErr result (λ halt. (run : Run AnyValue) → Changes run self.old self.new (Err halt)) }
+    {
+        let number = self.number_at(array);
+        let Some(text) = self.arrays.value_mut(number as usize, key) else {
+            return Ok(false);
+        };
+        append_bytes(self.alloc, text, bytes)?;
         Ok(true)
     }
 

@@ -5,7 +5,10 @@ ghost use Rattle.awk_semantics.specs.Primitives.{read_field, put_outside, set_co
 ghost use Rattle.awk_semantics.specs.Outside.{read_outside};
 ghost use Rattle.awk_semantics.specs.Items.{begin_record};
 ghost use Rattle.awk_semantics.specs.BuiltIns.{record_length};
-ghost use Rattle.std.specs.Prelude.{◌≡◌, pos, codes, true, false, Ok};
+ghost use Rattle.std.specs.Prelude.{◌≡◌, ◌≢◌, pos, codes, true, false, None, Ok, OnOk, OnErr};
+ghost use Rattle.awk_storage.specs.Positions.{assign_by_at};
+ghost use Rattle.awk_storage.specs.declared.position.Place.TheVariants.{Field};
+ghost use Rattle.awk_runtime.specs.support.Updates.{Gives};
 ghost use Rattle.awk_runtime.specs.support.Counting.{count_both};
 ghost use Rattle.awk_value.specs.declared.value.Value.TheVariants.{Number};
 
@@ -39,8 +42,44 @@ impl Runtime {
         if number == 0 {
             return self.set_record(text_of(self.alloc, &value)?);
         }
+        self.put_in_field(number, value)
+    }
+
+    // Gives a field a value, which it then holds. An `Err` changes nothing.
+    #[inline(never)]
+    fn put_in_field(&mut self, number: i128, value: Value) -> Result<(), Halt>
+        requires { number ≢ pos 0 }
+        ensures changes { Changes (set_field number value) self.old self.new result }
+        ensures put { OnOk result (Changes (assign_by_at self.old.names.scalars None Field (Number number) value) self.old self.new (Ok value)) }
+        ensures kept { OnErr result (self.new ≡ self.old) }
+    {
         let separator = text_of(self.alloc, self.specials.special(Special::Ofs))?;
         Ok(self.current.set_field(number, value, separator)?)
+    }
+
+    /// Gives the field of a value's number a value, of which no copy is made. The faults are F1, F3 and F8.
+    pub fn assign_field(&mut self, number: &Value, value: Value) -> Result<(), Halt>
+        ensures { Gives (assign_by_at self.old.names.scalars None Field number.now value) self.old result self.new }
+    {
+        let number = number_of(number)?;
+        self.set_field(number, value)?;
+        if let Some(_) = self.current.kept_field(number) {
+            return Ok(());
+        }
+        self.read_field(number)?;
+        Ok(())
+    }
+
+    /// Gives the field of a number, which isn't 0, a number, which isn't read again. `false`, and nothing changes, where it can't.
+    pub fn put_number_in_field(&mut self, number: i128, n: i128) -> bool
+        ensures put { result ≡ true → Changes (assign_by_at self.old.names.scalars None Field (Number number) (Number n)) self.old self.new
+            (Ok (Number n)) }
+        ensures kept { result ≡ false → self.new ≡ self.old }
+    {
+        if number == 0 {
+            return false;
+        }
+        self.put_in_field(number, Value::Number(n)).is_ok()
     }
 
     /// Makes the text the record at hand, with the fields that FS and RS of this moment separate. The fault is F1. (POSIX awk,

@@ -10,6 +10,7 @@ mod elements;
 mod fields;
 mod getlines;
 mod inputs;
+mod lines;
 mod names;
 mod operands;
 mod operators;

@@ -1,6 +1,6 @@
 // Printing.
 
-ghost use Rattle.std.specs.Prelude.{◌≡◌, ℕ, List, [], map, true, false, Ok, IfOk, IfSome};
+ghost use Rattle.std.specs.Prelude.{◌≡◌, ℕ, pos, List, [], map, true, false, Ok, IfOk, IfSome};
 ghost use Rattle.awk_value.specs.Values.{str_of};
 ghost use Rattle.awk_world.specs.declared.world.OutputKind.TheVariants.{Command as OutputCommand};
 ghost use Rattle.awk_world.specs.declared.world.Mode.TheVariants.{Truncate as ModeTruncate};
@@ -85,7 +85,7 @@ impl Runtime {
             (W.state world.now) self.new (W.state world.now) (Ok tt) }
     {
         let Some(text) = self.current.text_at_hand() else {
-            return false;
+            return self.hold_fields(world);
         };
         let Some(end) = text_at_hand(self.specials.special(Special::Ors)) else {
             return false;
@@ -93,9 +93,46 @@ impl Runtime {
         self.streams.hold(text.as_slice(), end.as_slice())
     }
 
-    /// Prints the field of a number as a line to standard output, where it is a stretch of the record, the text of ORS is at hand, and
-    /// both can be held back as they stand: nothing is asked of the world then. `false`, and nothing changes, elsewhere. (POSIX awk,
-    /// Output Statements)
+    // The same of a record whose text is still to be made of its fields: the first time they are printed as they stand, and it isn't
+    // made.
+    #[inline(never)]
+    fn hold_fields<W: World>(&mut self, world: &W) -> bool
+        requires ready { IsReady W.is_logged (W.state world.now) self.old.streams }
+        ensures ready { IsReady W.is_logged (W.state world.now) self.new.streams }
+        ensures kept { result ≡ false → self.new ≡ self.old }
+        ensures follows { result ≡ true → (functions : Functions) → Follows W.is_logged (print_at functions (ret 0) PrintForm.Print []) self.old
+            (W.state world.now) self.new (W.state world.now) (Ok tt) }
+    {
+        if !self.current.lend_once() {
+            return false;
+        }
+        let Some((fields, between)) = self.current.unjoined() else {
+            return false;
+        };
+        let Some(end) = text_at_hand(self.specials.special(Special::Ors)) else {
+            return false;
+        };
+        let (mut held, room) = self.streams.lend_output();
+        let holds = append_line(&mut held, room, fields, between, end.as_slice());
+        self.streams.take_output_back(held);
+        holds
+    }
+
+    // The same of field 0.
+    #[inline(never)]
+    fn hold_whole<W: World>(&mut self, world: &W) -> bool
+        requires ready { IsReady W.is_logged (W.state world.now) self.old.streams }
+        ensures ready { IsReady W.is_logged (W.state world.now) self.new.streams }
+        ensures kept { result ≡ false → self.new ≡ self.old }
+        ensures follows { result ≡ true → (functions : Functions) → Follows W.is_logged (print_field_at functions (pos 0)) self.old
+            (W.state world.now) self.new (W.state world.now) (Ok tt) }
+    {
+        self.hold_record(world)
+    }
+
+    /// Prints the field of a number as a line to standard output, where it is the record or a stretch of it, the text of ORS is at
+    /// hand, and both can be held back as they stand: nothing is asked of the world then. `false`, and nothing changes, elsewhere.
+    /// (POSIX awk, Output Statements)
     #[inline(always)]
     pub fn hold_field<W: World>(&mut self, world: &W, number: i128) -> bool
         requires ready { IsReady W.is_logged (W.state world.now) self.old.streams }
@@ -104,6 +141,9 @@ impl Runtime {
         ensures follows { result ≡ true → (functions : Functions) → Follows W.is_logged (print_field_at functions number) self.old
             (W.state world.now) self.new (W.state world.now) (Ok tt) }
     {
+        if number == 0 {
+            return self.hold_whole(world);
+        }
         let Some(span) = self.current.stretch(number) else {
             return false;
         };

@@ -155,10 +155,10 @@ abbrev pub toward : Option Bool → (here other : ℕ) → Move
 toward (Some holds) here other = move.On (if holds then here else other)
 toward None here other = move.Halted
 
--- nodes that append texts, print a field, walk over keys or end all calls
+-- nodes that append texts, print operands, walk over keys or end all calls
 abbrev pub IsRare : Node → Type 0
 IsRare (n.AppendTo x count k) = Unit {0}
-IsRare (n.PrintField a k) = Unit {0}
+IsRare (n.Print list k) = Unit {0}
 IsRare (n.Walk a k) = Unit {0}
 IsRare (n.NextKey i exit) = Unit {0}
 IsRare (n.TakeKey x k) = Unit {0}

@@ -1,10 +1,12 @@
 -- What is done with what is at hand: no world is reached, and there is no fault.
-use Rattle.std.specs.Prelude.{◌≡◌, ℕ, Bool, List, ◌∷◌, drop, Ok}
+use Rattle.std.specs.Prelude.{◌≡◌, ℕ, ℤ, Bool, List, ◌∷◌, drop, Ok}
 use Rattle.awk_lex.specs.declared.token.AssignmentOperator.{AssignmentOperator}
 use Rattle.awk_grammar.specs.declared.tree.BinaryOperator.{BinaryOperator}
 use Rattle.awk_value.specs.declared.value.Value.{Value}
 use Rattle.awk_semantics.specs.Operators.{operator_of, truth_value}
 use Rattle.awk_semantics.specs.Semantics.{Functions}
+use Rattle.awk_semantics.specs.State.{State, Run, ◌>>=◌}
+use Rattle.awk_semantics.specs.Primitives.{read_field}
 use Rattle.awk_storage.specs.declared.position.Place.{Place}
 use Rattle.awk_storage.specs.Positions.{assign_by_at}
 use Rattle.awk_resolve.specs.declared.node.Operand.{Operand}
@@ -17,6 +19,12 @@ use Rattle.awk_evaluator.specs.support.Rest.{tables_in}
 -- an operand is this value, which is at hand
 pub record IsAtHand (a : Operand) (v : Value) (m : Machine) : Type 0 where
   pub changes : Changes (operand_value m.runtime.names.scalars a) m.runtime m.runtime (Ok v)
+
+-- an operand is the field of this number, which is at hand: it is read behind a run that changes nothing
+pub record IsFieldOf (a : Operand) (n : ℤ) (m : Machine) : Type 0 where
+  pub number : Run ℤ
+  pub changes : Changes number m.runtime m.runtime (Ok n)
+  pub is : (s : State) → operand_value m.runtime.names.scalars a s ≡ (number >>= λ k. read_field k) s
 
 -- the value of a node is put on the stack, in the place of what it takes
 pub record Puts (x : ValueNode) (m m' : Machine) : Type 0 where

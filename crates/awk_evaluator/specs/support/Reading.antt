@@ -1,5 +1,5 @@
 -- What is done with operands that are read where they stand, in any way.
-use Rattle.std.specs.Prelude.{◌≡◌, ℕ, Bool, drop, Result, Ok, Err, OnOk}
+use Rattle.std.specs.Prelude.{◌≡◌, ℕ, Bool, List, ◌++◌, length, reverse, drop, Result, Ok, Err, OnOk}
 use Rattle.awk_lex.specs.declared.token.AssignmentOperator.{AssignmentOperator}
 use Rattle.awk_lex.specs.declared.token.IncrementOperator.{IncrementOperator}
 use Rattle.awk_value.specs.declared.value.Value.{Value}
@@ -12,7 +12,7 @@ use Rattle.awk_storage.specs.declared.position.Place.TheVariants as place
 use Rattle.awk_storage.specs.Positions.{post_increment_at}
 use Rattle.awk_resolve.specs.declared.node.Operand.{Operand}
 use Rattle.awk_resolve.specs.declared.node.ValueNode.{ValueNode}
-use Rattle.awk_resolve.specs.Nodes.{operand_value, assign_variable, update, increment, taken, append_to, print_field}
+use Rattle.awk_resolve.specs.Nodes.{operand_value, assign_variable, update, increment, taken, append_to, operand_values, print_operands}
 use Rattle.awk_streams.specs.WorldState.{WorldState}
 use Rattle.awk_runtime.specs.Simulation.{Simulates, Changes}
 use Rattle.awk_evaluator.specs.declared.machine.Machine.{Machine}
@@ -58,8 +58,23 @@ pub record Appends (x : Variable) (count : ℕ) (m : Machine) (r : Result Value 
   pub calls : OnOk r (m'.calls ≡ m.calls)
   pub changes : Changes (append_to m.runtime.names.scalars x (taken count m.operands.values)) m.runtime m'.runtime r
 
--- the field whose number an operand is is printed as a line
-pub record PrintsField (is_logged : Type 0) (a : Operand) (m : Machine) (k : WorldState) (r : Result (Unit {0}) Halt) (m' : Machine) (k' : WorldState) : Type 0 where
+-- operands are read in their order, and their values are put on the stack; behind an `Err` some may lie there
+
+pub record PutsValues (list : List Operand) (ws : List Value) (m m' : Machine) : Type 0 where
+  pub count : length ws ≡ length list
+  pub operands : m'.operands ≡ record m.operands { values = reverse ws ++ m.operands.values }
+  pub calls : m'.calls ≡ m.calls
+  pub changes : Changes (operand_values m.runtime.names.scalars list) m.runtime m'.runtime (Ok ws)
+
+abbrev pub PutsOperandsBy : List Operand → Machine → Result (Unit {0}) Halt → Machine → Type 0
+PutsOperandsBy list m (Ok u) m' = (ws : List Value) × PutsValues list ws m m'
+PutsOperandsBy list m (Err h) m' = Changes (operand_values m.runtime.names.scalars list) m.runtime m'.runtime (Err h)
+
+pub record PutsOperands (list : List Operand) (m : Machine) (r : Result (Unit {0}) Halt) (m' : Machine) : Type 0 where
+  pub puts : PutsOperandsBy list m r m'
+
+-- operands are printed as a line
+pub record PrintsOperands (is_logged : Type 0) (list : List Operand) (m : Machine) (k : WorldState) (r : Result (Unit {0}) Halt) (m' : Machine) (k' : WorldState) : Type 0 where
   pub operands : OnOk r (m'.operands ≡ m.operands)
   pub calls : OnOk r (m'.calls ≡ m.calls)
-  pub simulates : Simulates is_logged m.runtime k m'.runtime k' r (print_field m.runtime.names.scalars a)
+  pub simulates : Simulates is_logged m.runtime k m'.runtime k' r (print_operands m.runtime.names.scalars list)

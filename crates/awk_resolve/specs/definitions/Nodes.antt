@@ -31,6 +31,8 @@ use Rattle.awk_storage.specs.definitions.Positions.{number_at, read_element_of, 
 use Rattle.awk_storage.specs.definitions.Forms.{contains_at, delete_at, clear_at, count_elements_at, keys_of_array, match_in, split_with, substitute_at, main_getline_at, named_getline_at}
 use Rattle.awk_resolve.specs.declared.node.Operand.{Operand}
 use Rattle.awk_resolve.specs.declared.node.Operand.TheVariants as operand
+use Rattle.awk_resolve.specs.declared.node.Target.{Target}
+use Rattle.awk_resolve.specs.declared.node.Target.TheVariants as target
 use Rattle.awk_resolve.specs.declared.node.Source.{Source}
 use Rattle.awk_resolve.specs.declared.node.Source.TheVariants as source
 use Rattle.awk_resolve.specs.declared.node.ArgumentForm.{ArgumentForm}
@@ -95,10 +97,13 @@ module _ (names : List (List ℕ)) where
   abbrev pub operand_value : Operand → Run Value
   operand_value (operand.Constant x) = ret x
   operand_value (operand.Variable x) = read_variable names x
+  operand_value (operand.Field k) = read_field (pos k)
+  operand_value (operand.FieldAt x) = read_variable names x >>= λ w. number_of w >>= λ k. read_field k
 
-  -- the field whose number an operand is
-  abbrev pub field_at : Operand → Run Value
-  field_at a = operand_value a >>= λ x. number_of x >>= λ k. read_field k
+  -- those of several, in their order
+  abbrev pub operand_values : List Operand → Run (List Value)
+  operand_values [] = ret []
+  operand_values (a ∷ rest) = operand_value a >>= λ w. operand_values rest >>= λ ws. ret (w ∷ ws)
 
   abbrev pub operated_with : BinaryOperator → (left : Value) → Operand → Run Value
   operated_with o x b = operand_value b >>= λ y. lift (operated o x y)
@@ -114,9 +119,21 @@ module _ (names : List (List ℕ)) where
   abbrev pub append_to : Variable → List Value → Run Value
   append_to x ws = read_variable names x >>= λ old. assign_by_at names None (place.Variable x) value.Nothing (value.Text (str_of old ++ concat (map str_of ws)))
 
-  -- the field whose number an operand is, as a line to standard output
-  abbrev pub print_field : Operand → Run (Unit {0})
-  print_field a = field_at a >>= λ w. print_line 0 (w ∷ [])
+  -- a place, with its operand, gets its text with those of operands behind it
+  abbrev pub append_operands_at : Place → (operand : Value) → List Operand → Run Value
+  append_operands_at p key list = read_at names p key >>= λ old. operand_values list >>= λ ws. assign_by_at names None p key (value.Text (str_of old ++ concat (map str_of ws)))
+
+  abbrev pub append_operands : Target → List Operand → Run Value
+  append_operands (target.Variable x) list = append_operands_at (place.Variable x) value.Nothing list
+  append_operands (target.Element a key) list = operand_value key >>= λ w. append_operands_at (place.Element a) w list
+
+  -- the same, where a step is spent
+  abbrev pub append_by_step : Target → List Operand → Run Value
+  append_by_step t list = spend >>= λ _. append_operands t list
+
+  -- operands as a line to standard output
+  abbrev pub print_operands : List Operand → Run (Unit {0})
+  print_operands list = operand_values list >>= λ ws. print_line 0 ws
 
   -- a step is spent, and a variable gets an operand, or its number and 1, or less 1
   abbrev pub update : AssignmentOperator → Variable → Operand → Run Value
@@ -170,16 +187,14 @@ module _ (tables : Tables) where
 
   -- the value of a node
   abbrev pub value_of : Functions → ValueNode → List Value → Run Value
-  value_of functions (v.Push x) vs = ret x
-  value_of functions (v.Read x) vs = read_variable tables.names x
-  value_of functions (v.RecordMatches i) vs = record_text >>= λ x. lift (applied Matches x (value.Text (ere_at tables i)))
+  value_of functions (v.Put a) vs = operand_value tables.names a
+  value_of functions (v.Matches a i) vs = operand_value tables.names a >>= λ x. lift (applied Matches x (value.Text (ere_at tables i)))
   value_of functions (v.Operate o) vs = lift (operated o (second vs) (first vs))
   value_of functions (v.OperateWith o b) vs = operated_with tables.names o (first vs) b
   value_of functions (v.OperateOn o a b) vs = operated_on tables.names o a b
   value_of functions (v.MatchesEre o i) vs = lift (applied o (first vs) (value.Text (ere_at tables i)))
   value_of functions (v.Change o) vs = lift (changed o (first vs))
   value_of functions (v.ConcatenateAll k) vs = lift (Ok (value.Text (concat (map str_of (taken k vs)))))
-  value_of functions (v.ReadFieldAt a) vs = field_at tables.names a
   value_of functions v.ReadField vs = number_of (first vs) >>= λ k. read_field k
   value_of functions (v.ReadElement a) vs = read_element_of a (str_of (first vs))
   value_of functions (v.Contains a) vs = contains_at a (str_of (first vs)) >>= λ b. ret (truth_value b)
@@ -193,6 +208,7 @@ module _ (tables : Tables) where
   value_of functions v.RecordLength vs = record_length
   value_of functions (v.CountElements a) vs = count_elements_at a
   value_of functions (v.Apply f k) vs = lift (applied_all f (taken k vs))
+  value_of functions (v.ApplyTo f list k) vs = operand_values tables.names list.items >>= λ ws. lift (applied_all f (ws ++ taken k vs))
   value_of functions (v.Match (Some i)) vs = match_in (ere_at tables i) (str_of (first vs))
   value_of functions (v.Match None) vs = match_in (str_of (first vs)) (str_of (second vs))
   value_of functions (v.Split a by.FieldSeparator) vs = split_with a (str_of (first vs)) field_separator
@@ -225,16 +241,14 @@ split_operands b = 0
 
 -- how many values a node takes off the stack
 abbrev pub popped : ValueNode → ℕ
-popped (v.Push x) = 0
-popped (v.Read x) = 0
-popped (v.RecordMatches i) = 0
+popped (v.Put a) = 0
+popped (v.Matches a i) = 0
 popped (v.Operate o) = 2
 popped (v.OperateWith o b) = 1
 popped (v.OperateOn o a b) = 0
 popped (v.MatchesEre o i) = 1
 popped (v.Change o) = 1
 popped (v.ConcatenateAll k) = k
-popped (v.ReadFieldAt a) = 0
 popped v.ReadField = 1
 popped (v.ReadElement a) = 1
 popped (v.Contains a) = 1
@@ -248,6 +262,7 @@ popped (v.Load p) = 0
 popped v.RecordLength = 0
 popped (v.CountElements a) = 0
 popped (v.Apply f k) = k
+popped (v.ApplyTo f list k) = k
 popped (v.Match pattern) = suc (pattern_operands pattern)
 popped (v.Split a b) = suc (split_operands b)
 popped (v.Substitute all pattern p) = target_operands p + suc (pattern_operands pattern)
@@ -309,14 +324,15 @@ module _ (tables : Tables) (functions : Functions) (again : ℕ → Cont) where
   made at (n.Test here other) = λ vs. choose (truth_of (first vs)) (at here (drop 1 vs)) (at other (drop 1 vs))
   made at (n.CompareWith o b here other) = λ vs. operated_with tables.names o (first vs) b >>= λ x. choose (truth_of x) (at here (drop 1 vs)) (at other (drop 1 vs))
   made at (n.Compare o a b here other) = λ vs. operated_on tables.names o a b >>= λ x. choose (truth_of x) (at here vs) (at other vs)
-  made at (n.MatchRecord i here other) = λ vs. value_of tables functions (v.RecordMatches i) vs >>= λ x. choose (truth_of x) (at here vs) (at other vs)
+  made at (n.Match a i here other) = λ vs. value_of tables functions (v.Matches a i) vs >>= λ x. choose (truth_of x) (at here vs) (at other vs)
   made at (n.TestInside i here other) = λ vs. is_inside i >>= λ inside. choose inside (at here vs) (at other vs)
   made at (n.Assign o p k) = λ vs. value_of tables functions (v.Assign o p) vs >>= λ _. at k (drop (popped (v.Assign o p)) vs)
   made at (n.Raise o p k) = λ vs. value_of tables functions (v.PostIncrement o p) vs >>= λ _. at k (drop (popped (v.PostIncrement o p)) vs)
   made at (n.Update o x a k) = λ vs. update tables.names o x a >>= λ _. at k vs
   made at (n.Increment o x k) = λ vs. increment tables.names o x >>= λ _. at k vs
   made at (n.AppendTo x count k) = λ vs. append_to tables.names x (taken count vs) >>= λ _. at k (drop count vs)
-  made at (n.PrintField a k) = λ vs. print_field tables.names a >>= λ _. at k vs
+  made at (n.AppendOperands t list k) = λ vs. append_by_step tables.names t list.items >>= λ _. at k vs
+  made at (n.Print list k) = λ vs. print_operands tables.names list.items >>= λ _. at k vs
   made at (n.Again i) = again i
   made at (n.Walk a k) = λ vs. keys_of_array a >>= λ keys. at k (walk_values keys ++ vs)
   made at (n.NextKey i exit) = λ vs. next_key_by (keys_left (first vs)) (again i vs) (at exit (drop 1 vs))
@@ -347,14 +363,15 @@ AreBelow at (n.Effect x k) = k < at
 AreBelow at (n.Test here other) = (here < at) × (other < at)
 AreBelow at (n.CompareWith o b here other) = (here < at) × (other < at)
 AreBelow at (n.Compare o a b here other) = (here < at) × (other < at)
-AreBelow at (n.MatchRecord i here other) = (here < at) × (other < at)
+AreBelow at (n.Match a i here other) = (here < at) × (other < at)
 AreBelow at (n.TestInside i here other) = (here < at) × (other < at)
 AreBelow at (n.Assign o p k) = k < at
 AreBelow at (n.Raise o p k) = k < at
 AreBelow at (n.Update o x a k) = k < at
 AreBelow at (n.Increment o x k) = k < at
 AreBelow at (n.AppendTo x count k) = k < at
-AreBelow at (n.PrintField a k) = k < at
+AreBelow at (n.AppendOperands t list k) = k < at
+AreBelow at (n.Print list k) = k < at
 AreBelow at (n.Again i) = Unit {0}
 AreBelow at (n.Walk a k) = k < at
 AreBelow at (n.NextKey i exit) = exit < at

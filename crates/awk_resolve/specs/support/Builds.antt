@@ -135,6 +135,17 @@ pub record FindsAnOperand (kinds : ProgramKinds) (parameters : List FormalParame
   pub extends : Extends old new
   pub is : IsOperandOf kinds parameters new a e
 
+-- operands are what the expressions of a list are, in their order
+abbrev pub AreOperandsOf : (kinds : ProgramKinds) (parameters : List FormalParameter) (b : Builder) → List Operand → Exprs → Type 0
+AreOperandsOf kinds parameters b [] Nil = Unit {0}
+AreOperandsOf kinds parameters b [] (Cons e es) = ⊥
+AreOperandsOf kinds parameters b (a ∷ rest) Nil = ⊥
+AreOperandsOf kinds parameters b (a ∷ rest) (Cons e es) = IsOperandOf kinds parameters b a e × AreOperandsOf kinds parameters b rest es
+
+pub record FindsEachOperand (kinds : ProgramKinds) (parameters : List FormalParameter) (old new : Builder) (list : List Operand) (es : Exprs) : Type 0 where
+  pub extends : Extends old new
+  pub are : AreOperandsOf kinds parameters new list es
+
 -- an array is what a name stands for in a body with these parameters
 pub record IsArrayOf (kinds : ProgramKinds) (parameters : List FormalParameter) (a : Array) (x : List ℕ) : Type 0 where
   pub is : (p : Program kinds) (n : ℕ) (s : State) → IsIn p.tables parameters n s → array_number s x ≡ number_at a s

@@ -14,6 +14,7 @@ use Rattle.awk_grammar.specs.declared.tree.UnaryOperator.TheVariants as unary
 use Rattle.awk_grammar.specs.declared.tree.BinaryOperator.{BinaryOperator}
 use Rattle.awk_grammar.specs.declared.tree.BinaryOperator.TheVariants.{Infix}
 use Rattle.awk_grammar.specs.Tree.{Expr, Ere, OptionalExpr, NoExpr, AnExpr}
+use Rattle.awk_resolve.specs.declared.node.Operand.TheVariants as operand
 use Rattle.awk_resolve.specs.declared.node.Source.{Source}
 use Rattle.awk_resolve.specs.declared.node.Source.TheVariants as source
 use Rattle.awk_resolve.specs.declared.node.SplitBy.{SplitBy}
@@ -56,8 +57,8 @@ matching o None = v.Operate (Infix o)
 -- 1 and 0 are put on the stack
 pub record PushesTruths (old new : Builder) (yes no next : ℕ) : Type 0 where
   pub between : Builder
-  pub first : Pushes old between (n.Value (v.Push (value.Number (pos 1))) next) yes
-  pub second : Pushes between new (n.Value (v.Push (value.Number (pos 0))) next) no
+  pub first : Pushes old between (n.Value (v.Put (operand.Constant (value.Number (pos 1)))) next) yes
+  pub second : Pushes between new (n.Value (v.Put (operand.Constant (value.Number (pos 0)))) next) no
 
 -- a node with the number of an ERE
 pub record PushesEre (old new : Builder) (node : ℕ → ValueNode) (text : List ℕ) (place next : ℕ) : Type 0 where
@@ -92,6 +93,11 @@ abbrev pub takes_one : BuiltIn → Bool
 takes_one built_in.Close = true
 takes_one built_in.System = true
 takes_one f = false
+
+abbrev pub reads_in_place : BuiltIn → Bool
+reads_in_place built_in.Substr = true
+reads_in_place built_in.Index = true
+reads_in_place f = false
 
 abbrev pub strict_node : BuiltIn → ℕ → ValueNode
 strict_node built_in.Close k = v.Close

@@ -1,5 +1,5 @@
 -- Expressions that only read.
-use Rattle.std.specs.Prelude.{Bool, true, false, ◌&&◌}
+use Rattle.std.specs.Prelude.{pos, Bool, true, false, ◌&&◌}
 use Rattle.awk_lex.specs.declared.token.BuiltIn.{BuiltIn as BuiltInName}
 use Rattle.awk_lex.specs.declared.token.BuiltIn.TheVariants as f
 use Rattle.awk_grammar.specs.declared.tree.BinaryOperator.TheVariants.{Concatenate}
@@ -42,3 +42,15 @@ abbrev mutual
 abbrev pub parts_read : Expr → Bool
 parts_read (Binary Concatenate a b) = only_reads b && parts_read a
 parts_read e = true
+
+abbrev pub is_field_number : Expr → Bool
+is_field_number (Number (pos n)) = true
+is_field_number e = false
+
+-- an expression that may be read behind what only reads
+abbrev pub is_read_behind : Expr → Exprs → Bool
+is_read_behind (Number n) es = all_read es
+is_read_behind (String text) es = all_read es
+is_read_behind (Name x) es = all_read es
+is_read_behind (Field e) es = is_field_number e && all_read es
+is_read_behind e es = false

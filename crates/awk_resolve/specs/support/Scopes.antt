@@ -1,19 +1,20 @@
 -- Where names of a part of a program stand.
 use Rattle.std.specs.Prelude.{◌≡◌, ℕ, List, [], Option, Some, None}
 use Rattle.std.specs.Borrow.{Bor}
+use Rattle.std.specs.Global.{Vec}
 use Rattle.awk_kinds.specs.definitions.Kinds.{FormalParameter}
 use Rattle.awk_kinds.specs.definitions.Signatures.{ProgramKinds}
 use Rattle.awk_resolve.specs.declared.builder.Builder.{Builder}
 use Rattle.awk_resolve.specs.declared.scope.Scope.{Scope}
 use Rattle.awk_grammar.specs.declared.tree.PrintForm.{PrintForm}
-use Rattle.awk_grammar.specs.Tree.{Expr, OptionalExpr, PrintList, Standard, Expression, Print, Simple}
+use Rattle.awk_grammar.specs.Tree.{Expr, Exprs, OptionalExpr, PrintList, Standard, Expression, Print, Simple}
 use Rattle.awk_semantics.specs.definitions.BuiltIns.{bare_name}
 use Rattle.awk_storage.specs.declared.position.Array.{Array}
 use Rattle.awk_storage.specs.declared.position.Place.{Place}
 use Rattle.awk_storage.specs.declared.position.Variable.{Variable}
 use Rattle.awk_resolve.specs.declared.builder.Exits.{Exits}
 use Rattle.awk_resolve.specs.declared.node.Operand.{Operand}
-use Rattle.awk_resolve.specs.support.Builds.{NamesArray, Part, Execute, Extends, Builds as BuildsWith, FindsPlace as FindsPlaceWith, FindsOptionalPlace as FindsOptionalPlaceWith, FindsNamed, FindsAnOperand}
+use Rattle.awk_resolve.specs.support.Builds.{NamesArray, Part, Evaluate, Execute, Extends, Builds as BuildsWith, FindsPlace as FindsPlaceWith, FindsOptionalPlace as FindsOptionalPlaceWith, FindsNamed, FindsAnOperand, FindsEachOperand}
 
 abbrev pub given_parameters : Option (Bor (List FormalParameter)) → List FormalParameter
 given_parameters None = []
@@ -52,6 +53,16 @@ abbrev pub FindsOperand : Scope → (old new : Builder) → Option Operand → E
 FindsOperand scope old new None e = new ≡ old
 FindsOperand scope old new (Some a) e = FindsAnOperand scope.kinds.now (parameters_of scope) old new a e
 
+-- the operands that the expressions of a list are there, if each is one; names that were read before one that is none have slots
+abbrev pub FindsOperands : Scope → (old new : Builder) → Option (Vec Operand) → Exprs → Type 0
+FindsOperands scope old new None es = Extends old new
+FindsOperands scope old new (Some list) es = FindsEachOperand scope.kinds.now (parameters_of scope) old new list.items es
+
+-- an expression is one node there behind what it takes off the stack, if it is built
+abbrev pub LowersValue : Scope → (old new : Builder) → Option ℕ → Expr → (next : ℕ) → Type 0
+LowersValue scope old new None e next = Extends old new
+LowersValue scope old new (Some place) e next = Builds scope old new place (Evaluate e next)
+
 -- an expression whose value is of no use is one node there, if it is built
 abbrev pub LowersChange : Scope → (old new : Builder) → Option ℕ → Expr → Exits → Type 0
 LowersChange scope old new None e exits = Extends old new
@@ -59,5 +70,5 @@ LowersChange scope old new (Some place) e exits = Builds scope old new place (Ex
 
 -- a print to standard output is one node there, if it is built
 abbrev pub LowersPrint : Scope → (old new : Builder) → Option ℕ → PrintForm → PrintList → Exits → Type 0
-LowersPrint scope old new None form list exits = new ≡ old
+LowersPrint scope old new None form list exits = Extends old new
 LowersPrint scope old new (Some place) form list exits = Builds scope old new place (Execute (Simple (Print form list Standard)) exits)

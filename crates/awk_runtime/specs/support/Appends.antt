@@ -6,8 +6,9 @@ use Rattle.awk_value.specs.Values.{str_of}
 use Rattle.awk_semantics.specs.declared.halt.Halt.{Halt}
 use Rattle.awk_semantics.specs.State.{Run, ◌>>=◌, lift}
 use Rattle.awk_storage.specs.declared.position.Variable.{Variable}
+use Rattle.awk_storage.specs.declared.position.Place.{Place}
 use Rattle.awk_storage.specs.declared.position.Place.TheVariants as place
-use Rattle.awk_storage.specs.Positions.{read_variable, put_variable, assign_by_at}
+use Rattle.awk_storage.specs.Positions.{read_variable, put_variable, read_at, assign_by_at}
 use Rattle.awk_runtime.specs.declared.runtime.Runtime.{Runtime}
 use Rattle.awk_runtime.specs.support.Simulation.{Changes}
 
@@ -28,3 +29,10 @@ pub record AppendsText (x : Variable) (behind : Value) (old new : Runtime) : Typ
   pub read : Changes (read_variable old.names.scalars x) old old (Ok before)
   pub after : Value
   pub appends : Changes (appended old.names.scalars x before behind) old new (Ok after)
+
+-- a place gets its text with these bytes behind it
+pub record AppendsAt (p : Place) (operand : Value) (behind : List ℕ) (old new : Runtime) : Type 0 where
+  pub before : Value
+  pub read : Changes (read_at old.names.scalars p operand) old old (Ok before)
+  pub after : Value
+  pub appends : Changes (assign_by_at old.names.scalars None p operand (value.Text (str_of before ++ behind))) old new (Ok after)

@@ -1,17 +1,11 @@
 use Rattle.awk_evaluator.proofs.Computing.{computed_ready, computed_evaluates}
 use Rattle.awk_evaluator.proofs.machine.Machine.evaluate.Goals as goal
 
-pub returns-in-Push-clause-ready : goal.returns-in-Push-clause-ready
-returns-in-Push-clause-ready g c = computed_ready c.constant.ensures c.requires.ready
+pub returns-in-Put-clause-ready : goal.returns-in-Put-clause-ready
+returns-in-Put-clause-ready g c = computed_ready c.operand.ensures c.requires.ready
 
-pub returns-in-Push-clause-evaluates : goal.returns-in-Push-clause-evaluates
-returns-in-Push-clause-evaluates g c = rw c.in-Push.is (computed_evaluates c.constant.ensures)
-
-pub returns-in-Read-clause-ready : goal.returns-in-Read-clause-ready
-returns-in-Read-clause-ready g c = computed_ready c.variable.ensures c.requires.ready
-
-pub returns-in-Read-clause-evaluates : goal.returns-in-Read-clause-evaluates
-returns-in-Read-clause-evaluates g c = rw c.in-Read.is (computed_evaluates c.variable.ensures)
+pub returns-in-Put-clause-evaluates : goal.returns-in-Put-clause-evaluates
+returns-in-Put-clause-evaluates g c = rw c.in-Put.is (computed_evaluates c.operand.ensures)
 
 pub returns-in-Operate-clause-ready : goal.returns-in-Operate-clause-ready
 returns-in-Operate-clause-ready g c = computed_ready c.operate.ensures c.requires.ready
@@ -42,12 +36,6 @@ returns-in-ReadField-clause-ready g c = computed_ready c.field.ensures c.require
 
 pub returns-in-ReadField-clause-evaluates : goal.returns-in-ReadField-clause-evaluates
 returns-in-ReadField-clause-evaluates g c = rw c.in-ReadField.is (computed_evaluates c.field.ensures)
-
-pub returns-in-ReadFieldAt-clause-ready : goal.returns-in-ReadFieldAt-clause-ready
-returns-in-ReadFieldAt-clause-ready g c = computed_ready c.field_at.ensures c.requires.ready
-
-pub returns-in-ReadFieldAt-clause-evaluates : goal.returns-in-ReadFieldAt-clause-evaluates
-returns-in-ReadFieldAt-clause-evaluates g c = rw c.in-ReadFieldAt.is (computed_evaluates c.field_at.ensures)
 
 pub returns-in-ConcatenateAll-clause-ready : goal.returns-in-ConcatenateAll-clause-ready
 returns-in-ConcatenateAll-clause-ready g c = computed_ready c.concatenate_all.ensures c.requires.ready
@@ -85,11 +73,11 @@ returns-in-PostIncrement-clause-ready g c = computed_ready c.post_increment.ensu
 pub returns-in-PostIncrement-clause-evaluates : goal.returns-in-PostIncrement-clause-evaluates
 returns-in-PostIncrement-clause-evaluates g c = rw c.in-PostIncrement.is (computed_evaluates c.post_increment.ensures)
 
-pub returns-in-RecordMatches-clause-ready : goal.returns-in-RecordMatches-clause-ready
-returns-in-RecordMatches-clause-ready g c = computed_ready c.record_matches.ensures c.requires.ready
+pub returns-in-Matches-clause-ready : goal.returns-in-Matches-clause-ready
+returns-in-Matches-clause-ready g c = computed_ready c.matches.ensures c.requires.ready
 
-pub returns-in-RecordMatches-clause-evaluates : goal.returns-in-RecordMatches-clause-evaluates
-returns-in-RecordMatches-clause-evaluates g c = rw c.in-RecordMatches.is (computed_evaluates c.record_matches.ensures)
+pub returns-in-Matches-clause-evaluates : goal.returns-in-Matches-clause-evaluates
+returns-in-Matches-clause-evaluates g c = rw c.in-Matches.is (computed_evaluates c.matches.ensures)
 
 pub returns-in-MatchesEre-clause-ready : goal.returns-in-MatchesEre-clause-ready
 returns-in-MatchesEre-clause-ready g c = computed_ready c.matches_ere.ensures c.requires.ready
@@ -138,6 +126,12 @@ returns-in-Apply-clause-ready g c = computed_ready c.apply_function.ensures c.re
 
 pub returns-in-Apply-clause-evaluates : goal.returns-in-Apply-clause-evaluates
 returns-in-Apply-clause-evaluates g c = rw c.in-Apply.is (computed_evaluates c.apply_function.ensures)
+
+pub returns-in-ApplyTo-clause-ready : goal.returns-in-ApplyTo-clause-ready
+returns-in-ApplyTo-clause-ready g c = computed_ready c.apply_to.ensures c.requires.ready
+
+pub returns-in-ApplyTo-clause-evaluates : goal.returns-in-ApplyTo-clause-evaluates
+returns-in-ApplyTo-clause-evaluates g c = rw c.in-ApplyTo.is (computed_evaluates c.apply_to.ensures)
 
 pub returns-in-Match-clause-ready : goal.returns-in-Match-clause-ready
 returns-in-Match-clause-ready g c = computed_ready c.match_in.ensures c.requires.ready

@@ -1,5 +1,4 @@
-use Rattle.std.proofs.Common.{refl, sym, subst}
-use Rattle.awk_evaluator.specs.Calling.{GivesAll}
+use Rattle.std.proofs.Common.{refl}
 use Rattle.awk_evaluator.proofs.machine.Machine.give_arguments.Goals as goal
 
 pub returns-then-is_one_value : goal.returns-then-is_one_value

@@ -1,7 +1,6 @@
 use Rattle.std.proofs.Common.{rules, ◌≡◌, refl, to_z, of_z}
 use mir.Syntax.{w128}
-use Rattle.awk_evaluator.proofs.FieldPrints.{field_held}
-use Rattle.awk_evaluator.proofs.Moving.{executes_done, idle_done}
+use Rattle.awk_evaluator.proofs.OperandPrints.{field_held}
 use Rattle.awk_evaluator.proofs.machine.Machine.hold_field.Goals as goal
 
 pub returns-clause-prints : goal.returns-clause-prints

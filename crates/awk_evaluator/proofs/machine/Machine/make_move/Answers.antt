@@ -4,7 +4,7 @@ use Rattle.awk_runtime.proofs.Composition.{ready_same, ready_behind}
 use Rattle.awk_evaluator.proofs.Changing.{ready_compared, inside_on}
 use Rattle.awk_evaluator.proofs.Moving.{returns_value, returns_nothing}
 use Rattle.awk_evaluator.proofs.QuickMoves.{truth_on}
-use Rattle.awk_evaluator.proofs.NodeMoves.{effect_moves, update_moves, increment_moves, assign_moves, raise_moves, match_moves, compare_moves, compare_with_moves, again_moves, ready_done, ready_run, ready_given}
+use Rattle.awk_evaluator.proofs.NodeMoves.{effect_moves, update_moves, increment_moves, assign_moves, raise_moves, append_operands_moves, match_moves, compare_moves, compare_with_moves, again_moves, ready_done, ready_run, ready_left, ready_given}
 use Rattle.awk_evaluator.proofs.machine.Machine.make_move.Goals as goal
 
 pub put_value-requires-clause-calls : goal.put_value-requires-clause-calls
@@ -25,8 +25,8 @@ returns-in-CompareWith g c = rw (c.toward.ensures, c.in-CompareWith.is) (record 
 pub returns-in-Compare : goal.returns-in-Compare
 returns-in-Compare g c = rw (c.toward-in-Compare.ensures, c.in-Compare.is) (record { ready = ready_compared c.compare.ensures c.requires.ready; moves = compare_moves c.compare.result c.compare.ensures })
 
-pub returns-in-MatchRecord : goal.returns-in-MatchRecord
-returns-in-MatchRecord g c = rw (c.toward-in-MatchRecord.ensures, c.in-MatchRecord.is) (record { ready = ready_compared c.match_record.ensures c.requires.ready; moves = match_moves c.match_record.result c.match_record.ensures })
+pub returns-in-Match : goal.returns-in-Match
+returns-in-Match g c = rw (c.toward-in-Match.ensures, c.in-Match.is) (record { ready = ready_compared c.match_operand.ensures c.requires.ready; moves = match_moves c.match_operand.result c.match_operand.ensures })
 
 pub returns-in-TestInside : goal.returns-in-TestInside
 returns-in-TestInside g c = rw c.in-TestInside.is (record { ready = c.requires.ready; moves = inside_on c.chosen-in-TestInside.ensures c.is_inside-inside.ensures })
@@ -42,6 +42,9 @@ returns-in-Update g c = rw (c.onward-in-Update.ensures, c.in-Update.is) (record 
 
 pub returns-in-Increment : goal.returns-in-Increment
 returns-in-Increment g c = rw (c.onward-in-Increment.ensures, c.in-Increment.is) (record { ready = ready_run c.increment.result c.increment.ensures c.requires.ready; moves = increment_moves c.increment.result c.increment.ensures })
+
+pub returns-in-AppendOperands : goal.returns-in-AppendOperands
+returns-in-AppendOperands g c = rw (c.onward-in-AppendOperands.ensures, c.in-AppendOperands.is) (record { ready = ready_left c.append_operands.result c.append_operands.ensures c.requires.ready; moves = append_operands_moves c.append_operands.result (rw c.deref.ensures.value at c.append_operands.ensures) })
 
 pub returns-in-Again : goal.returns-in-Again
 returns-in-Again g c = rw (c.upward.ensures, c.in-Again.is) (record { ready = ready_behind c.spend.ensures.spends.changes c.requires.ready; moves = again_moves c.spend.result c.head_of-head.ensures c.spend.ensures.operands c.spend.ensures.calls c.spend.ensures.spends })

@@ -1,4 +1,4 @@
-use Rattle.std.proofs.Common.{refl, sym, ap, ◌∙◌}
+use Rattle.std.proofs.Common.{refl, sym, ◌∙◌}
 use Rattle.awk_runtime.proofs.Composition.{ready_behind}
 use Rattle.awk_evaluator.proofs.Moving.{key_exit, walk_left, next_stops, exit_stops, zero_test, no_zero_test}
 use Rattle.awk_evaluator.proofs.NodeMoves.{append_moves, print_moves, walk_moves, key_moves, turn_moves, ready_appended, ready_put}
@@ -7,8 +7,8 @@ use Rattle.awk_evaluator.proofs.machine.Machine.make_rare_move.Goals as goal
 pub returns-in-AppendTo : goal.returns-in-AppendTo
 returns-in-AppendTo g c = rw (c.onward.ensures, c.in-AppendTo.is) (record { ready = ready_appended c.append_texts.result c.append_texts.ensures c.requires.ready; moves = append_moves c.append_texts.result c.append_texts.ensures })
 
-pub returns-in-PrintField : goal.returns-in-PrintField
-returns-in-PrintField g c = rw (c.onward-in-PrintField.ensures, c.in-PrintField.is) (record { ready = c.print_field.ensures.ready; moves = print_moves c.print_field.result c.print_field.ensures.prints })
+pub returns-in-Print : goal.returns-in-Print
+returns-in-Print g c = rw (c.onward-in-Print.ensures, c.in-Print.is) (record { ready = c.print_operands.ensures.ready; moves = print_moves c.print_operands.result (rw c.deref.ensures.value at c.print_operands.ensures.prints) })
 
 pub returns-in-Walk : goal.returns-in-Walk
 returns-in-Walk g c = rw (c.onward-in-Walk.ensures, c.in-Walk.is) (record { ready = ready_put c.begin_walk.result c.begin_walk.ensures c.requires.ready; moves = walk_moves c.begin_walk.result c.begin_walk.ensures })

@@ -1,16 +1,11 @@
-use Rattle.std.proofs.Common.{refl}
+use Rattle.std.proofs.Common.{Ok, Err, refl}
 use Rattle.awk_semantics.specs.Operators.{truth_value}
+use Rattle.awk_evaluator.proofs.Joining.{record_matched}
 use Rattle.awk_evaluator.proofs.Quickly.{truth_is}
 use Rattle.awk_evaluator.proofs.machine.Machine.match_record.Goals as goal
 
 pub returns-in-Ok : goal.returns-in-Ok
-returns-in-Ok c = record {
-  compares = (
-    truth_value c.in-Ok.holds,
-    truth_is c.in-Ok.holds,
-    record { operands = refl; calls = refl; changes = λ tables functions. c.in-Ok.ensures },
-  );
-}
+returns-in-Ok c = record { compares = (truth_value c.in-Ok.holds, truth_is c.in-Ok.holds, record_matched c.args.ere (Ok _) refl refl c.in-Ok.ensures) }
 
 pub returns-in-Err : goal.returns-in-Err
-returns-in-Err c = record { compares = record { operands = tt; calls = tt; changes = λ tables functions. c.in-Err.ensures } }
+returns-in-Err c = record { compares = record_matched c.args.ere (Err _) refl refl c.in-Err.ensures }

@@ -1,8 +1,9 @@
-use Rattle.std.proofs.Common.{ap, ◌∙◌}
-use Rattle.std.specs.Result.{result_ok}
-use Rattle.awk_value.specs.Values.{num_of}
-use Rattle.awk_evaluator.proofs.QuickValues.{number_alike}
+use Rattle.std.specs.Prelude.{IfSome}
+use Rattle.std.proofs.Common.{subst}
+use Rattle.awk_value.specs.declared.value.Value.{Value}
+use Rattle.awk_value.specs.declared.value.Value.TheVariants.{Number}
+use Rattle.awk_evaluator.specs.Quick.{AssignsAlike}
 use Rattle.awk_evaluator.proofs.machine.Machine.number_for.Goals as goal
 
-pub returns-in_ok-top-in_default : goal.returns-in_ok-top-in_default
-returns-in_ok-top-in_default c = number_alike c.args.operator _ c.ok.result c.in_default.not-Plain (c.ok.ensures.value ∙ ap result_ok (c.number_of.ensures ∙ ap num_of c.in_ok-top-in_default.ensures.top))
+pub returns : goal.returns
+returns c = subst (λ (w : Value). IfSome c.number_alike.result (λ n. AssignsAlike c.args.operator w (Number n))) (c.in_ok-top.ensures {u = tt}).top c.number_alike.ensures

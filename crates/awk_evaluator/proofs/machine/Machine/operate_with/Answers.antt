@@ -1,4 +1,3 @@
-use Rattle.std.proofs.Common.{refl}
 use Rattle.std.proofs.lemmas.Result.{err_from_is_err_and}
 use Rattle.awk_evaluator.proofs.Joining.{operated_with_operand, operated_with_none}
 use Rattle.awk_evaluator.proofs.machine.Machine.operate_with.Goals as goal

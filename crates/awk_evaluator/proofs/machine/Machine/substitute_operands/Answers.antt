@@ -1,4 +1,4 @@
-use Rattle.std.proofs.Common.{◌≡◌, ◌∙◌, sym, refl, arith}
+use Rattle.std.proofs.Common.{◌∙◌, sym, refl, arith}
 use Rattle.std.proofs.lemmas.Result.{err_from_is_err_and}
 use Rattle.awk_evaluator.proofs.Joining.{two_items}
 use Rattle.awk_evaluator.proofs.Substituting.{substituted_puts, substitute_ends}

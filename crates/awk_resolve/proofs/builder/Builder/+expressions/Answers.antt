@@ -1,10 +1,11 @@
-use Rattle.std.proofs.Common.{Option, ◌≡◌, ℕ, suc, ◌-◌, Bool, true, false, List, [], rules, get_or, drop, length, refl, sym, subst, ap, ◌∙◌, true≢false, arith, to_z, of_z}
+use Rattle.std.proofs.Common.{Option, None, ◌≡◌, ℕ, suc, ◌-◌, Bool, true, false, List, [], rules, get_or, drop, length, refl, sym, subst, ap, ◌∙◌, true≢false, arith, to_z, of_z}
 use Rattle.awk_grammar.specs.declared.tree.Expr.{Expr as CodeExpr}
 use Rattle.awk_grammar.specs.declared.tree.Expr.TheVariants as code
 use Rattle.std.specs.Global.{Box}
 use mir.Syntax.{w128}
 use Rattle.awk_grammar.specs.declared.tree.Expr.TheViews.{the_lemmas}
-use Rattle.awk_grammar.specs.declared.tree.BinaryOperator.TheVariants.{Concatenate}
+use Rattle.awk_lex.specs.declared.token.Operator.TheVariants as o
+use Rattle.awk_grammar.specs.declared.tree.BinaryOperator.TheVariants.{Concatenate, Infix}
 use Rattle.awk_grammar.specs.Tree as tree
 use Rattle.awk_grammar.specs.View.{expr_of, exprs_of, optional_expr_of}
 use Rattle.std.proofs.lemmas.Option.{get_or_from_slice_get}
@@ -17,35 +18,36 @@ use Rattle.awk_resolve.specs.support.Appends.{without_first}
 use Rattle.awk_resolve.specs.support.Parts.{is_concatenation, parts_of}
 use Rattle.awk_resolve.specs.support.Calls.{arrays_of, is_array_at, roles_from}
 use Rattle.awk_resolve.specs.support.Scopes.{Builds}
-use Rattle.awk_resolve.proofs.Building.{ok_map, stands, arrays_same}
+use Rattle.awk_resolve.proofs.Building.{ok_map, same, still, behind, stands, arrays_same, extends}
 use Rattle.awk_resolve.proofs.ExpressionForms.{number_lowered, strict_lowered, string_lowered, ere_lowered, length_lowered, element_lowered, field_lowered, group_lowered, unary_lowered, membership_lowered, list_membership_lowered, assign_lowered, pre_increment_lowered, post_increment_lowered}
-use Rattle.awk_resolve.proofs.InPlaceForms.{nothing_before, strict, strictly_by, operated_with_lowered, operated_on_lowered, compared_with_lowered, compared_lowered}
+use Rattle.awk_resolve.proofs.InPlaceForms.{nothing_before, operand_lowered, match_tested, strict, strictly_by, operated_with_lowered, operated_on_lowered, compared_with_lowered, compared_lowered}
 use Rattle.awk_resolve.proofs.AppendForms.{append_lowered, whole_left, behind_concatenation, behind_other}
-use Rattle.awk_resolve.proofs.PartForms.{field_at_lowered, part_lowered, whole_part_lowered, joined_lowered}
+use Rattle.awk_resolve.proofs.PartForms.{part_lowered, whole_part_lowered, joined_lowered}
 use Rattle.awk_resolve.proofs.PatternForms.{matched, unless_ere_lowered, ere_stays}
-use Rattle.awk_resolve.proofs.ConditionForms.{test_lowered, ere_tested, group_tested, not_tested, and_tested, or_tested, and_lowered, or_lowered, conditional_lowered}
+use Rattle.awk_resolve.proofs.ConditionForms.{test_lowered, ere_tested, mismatch_tested, group_tested, not_tested, and_tested, or_tested, and_lowered, or_lowered, conditional_lowered}
 use Rattle.awk_resolve.proofs.ListForms.{none_lowered, more_lowered, count_exprs, exprs_over, exprs_at, some_expr, one_expr, two_exprs, three_exprs, key_lowered}
 use Rattle.awk_resolve.proofs.OperandForms.{name_operand, element_operand, field_operand, number_field, not_an_ere}
 use Rattle.awk_resolve.proofs.CallForms.{call_fits, call_lowered, no_arguments, array_argument, value_argument}
 use Rattle.awk_resolve.proofs.BuiltInForms.{IsPlain, strict_applied, record_length_lowered, count_lowered, length_of_lowered, flush_all_lowered, flush_lowered, match_lowered, fields_split, split_lowered}
+use Rattle.awk_resolve.proofs.OperandCalls.{operands_applied, behind_applied, length_of_operand}
 use Rattle.awk_resolve.proofs.SubstituteForms.{substitute_lowered, substitute_place_lowered}
 use Rattle.awk_resolve.proofs.GetlineForms.{nothing_stays, something_lowered, no_operand_stays, operand_there, getline_lowered, piped_getline_lowered}
 use Rattle.awk_resolve.proofs.builder.Builder.+expressions.Goals as goal
-use Rattle.awk_resolve.proofs.builder.Builder.+expressions.Goals.{lower_parts-in_default-via-in-Binary+in_default, lower_parts-in_default-via-in_default, lower_behind_first-in_default-via-in-Binary+in_default, lower_behind_first-in_default-via-in_default, lower_built_in-else-takes_one-via-then-takes_one+else-list-ne1, lower_built_in-else-takes_one-via-else-takes_one}
+use Rattle.awk_resolve.proofs.builder.Builder.+expressions.Goals.{lower_parts-in_default-via-in-Binary+in_default, lower_parts-in_default-via-in_default, lower_behind_first-in_default-via-in-Binary+in_default, lower_behind_first-in_default-via-in_default, lower_built_in-else-takes_one-via-then-takes_one+else-list-ne1, lower_built_in-else-takes_one-via-else-takes_one, lower_match_test-in_default-via-in-Number-1, lower_match_test-in_default-via-in-Ere+in_ok-operand+in-None-1}
 
 pub lower-returns-in-Number : goal.lower-returns-in-Number
 lower-returns-in-Number t c =
     let number : to_z w128 (of_z w128 c.in-Number.n) ≡ c.in-Number.n = search rules in
-    rw (ap expr_of c.in-Number.is) (ok_map _ (λ i p. number_lowered _ c.requires p) (rw number at c.push_value.ensures))
+    rw (ap expr_of c.in-Number.is) (ok_map _ (λ i p. number_lowered _ c.requires p) (rw number at c.push_constant.ensures))
 
 pub lower-returns-in_ok-clone-in-String : goal.lower-returns-in_ok-clone-in-String
-lower-returns-in_ok-clone-in-String t c = rw (ap expr_of c.in-String.is) (ok_map _ (λ i p. string_lowered _ c.requires p) (rw c.in_ok-clone-in-String.ensures.cases at c.push_value-in-String.ensures))
+lower-returns-in_ok-clone-in-String t c = rw (ap expr_of c.in-String.is) (ok_map _ (λ i p. string_lowered _ c.requires p) (rw c.in_ok-clone-in-String.ensures.cases at c.push_constant-in-String.ensures))
 
 pub lower-returns-in-Ere : goal.lower-returns-in-Ere
 lower-returns-in-Ere t c = rw (ap expr_of c.in-Ere.is) (ok_map _ (λ i p. ere_lowered c.requires p) c.push_ere.ensures)
 
 pub lower-returns-in-Length : goal.lower-returns-in-Length
-lower-returns-in-Length t c = rw (ap expr_of c.in-Length.is) (ok_map _ (λ i p. length_lowered c.requires p) c.push_value-in-Length.ensures)
+lower-returns-in-Length t c = rw (ap expr_of c.in-Length.is) (ok_map _ (λ i p. length_lowered c.requires p) c.push_value.ensures)
 
 pub lower-returns-in-Element : goal.lower-returns-in-Element
 lower-returns-in-Element t c =
@@ -106,7 +108,7 @@ lower_field-returns-in_default t c =
     ok_map _ (λ i q. field_lowered c.requires (nothing_before none c.in_ok-read.ensures) q) c.lower.ensures
 
 pub lower_field-returns : goal.lower_field-returns
-lower_field-returns t c = ok_map _ (λ i q. field_at_lowered c.requires (rw c.in-Some.is at c.in_ok-operand.ensures) q) c.push_value-2.ensures
+lower_field-returns t c = ok_map _ (λ i q. operand_lowered c.requires (rw c.in-Some.is at c.in_ok-operand.ensures) q) c.push_value-2.ensures
 
 pub lower-returns-in-Call : goal.lower-returns-in-Call
 lower-returns-in-Call t c =
@@ -263,7 +265,7 @@ lower_operand-returns-in-Field t c = rw (ap expr_of c.in-Field.is) (rw c.deref-i
 pub lower_field_number-returns-in-Number : goal.lower_field_number-returns-in-Number
 lower_field_number-returns-in-Number t c =
     let number : to_z w128 (of_z w128 c.in-Number.n) ≡ c.in-Number.n = search rules in
-    rw (ap expr_of c.in-Number.is) (ok_map _ (λ i q. number_field _ c.requires q) (rw number at c.push_value.ensures))
+    rw (ap expr_of c.in-Number.is) (ok_map _ (λ i q. number_field _ c.requires q) (rw number at c.push_constant.ensures))
 
 pub lower_field_number-returns : goal.lower_field_number-returns
 lower_field_number-returns t c = ok_map _ (λ i q. field_operand c.requires c.in_ok-number.ensures q) c.lower.ensures
@@ -307,8 +309,31 @@ lower_test-returns-in_ok-second-in-Binary-2 t c =
     rw (ap expr_of c.in-Binary-2.is)
     (ok_map _ (λ i q. or_tested c.in-Binary-2.o (sym c.is_or.ensures ∙ c.if-is_or.true) (rw c.deref-in-Binary-2-2.ensures at c.in_ok-second-in-Binary-2.ensures) q) (rw c.deref-in-Binary-2-3.ensures at c.lower_test-in-Binary-2-3.ensures))
 
+pub lower_test-returns-in-Binary-Infix-Matches-default-default : goal.lower_test-returns-in-Binary-Infix-Matches-default-default
+lower_test-returns-in-Binary-Infix-Matches-default-default t c =
+    let x = c.in-Binary-Infix-Matches-default-default in
+    let is : expr_of c.args.e.now ≡ tree.Binary (Infix o.Matches) (expr_of x.a.value) (expr_of x.b.value) = search (rules, the_lemmas) in
+    rw is (rw (c.deref-in-Binary-Infix-Matches-default-default.ensures, c.deref-in-Binary-Infix-Matches-default-default-2.ensures) at c.lower_match_test.ensures)
+
+pub lower_test-returns-in-Binary-Infix-NotMatches-default-default : goal.lower_test-returns-in-Binary-Infix-NotMatches-default-default
+lower_test-returns-in-Binary-Infix-NotMatches-default-default t c =
+    let x = c.in-Binary-Infix-NotMatches-default-default in
+    let is : expr_of c.args.e.now ≡ tree.Binary (Infix o.NotMatches) (expr_of x.a.value) (expr_of x.b.value) = search (rules, the_lemmas) in
+    rw is (ok_map _ (λ i q. mismatch_tested q) (rw (c.deref-in-Binary-Infix-NotMatches-default-default.ensures, c.deref-in-Binary-Infix-NotMatches-default-default-2.ensures) at c.lower_match_test-in-Binary-Infix-NotMatches-default-default.ensures))
+
 pub lower_test-returns-in_ok-test-in_default : goal.lower_test-returns-in_ok-test-in_default
 lower_test-returns-in_ok-test-in_default t c = ok_map _ (λ i q. test_lowered c.requires.here c.requires.other c.in_ok-test-in_default.ensures q) c.lower.ensures
+
+pub lower_match_test-returns : goal.lower_match_test-returns
+lower_match_test-returns t c = rw (ap expr_of c.in-Ere.is) (ok_map _ (λ i q. match_tested c.requires.here c.requires.other (rw c.in-Some.is at c.in_ok-operand.ensures) c.in_ok-number.ensures q) c.push.ensures)
+
+pub lower_match_test-returns-2 : goal.lower_match_test-returns-2
+lower_match_test-returns-2 t c =
+    let same : c.in_default.self ≡ c.args.self.now = elim c.in_default.branch [
+      | lower_match_test-in_default-via-in-Number-1 w ↦ w.self-is
+      | lower_match_test-in_default-via-in-Ere+in_ok-operand+in-None-1 w ↦ (let none : w.in_ok-operand.field-0 ≡ None = search rules in w.self-is ∙ rw none at w.in_ok-operand.ensures)
+    ] in
+    ok_map _ (λ i q. test_lowered c.requires.here c.requires.other (nothing_before same c.in_ok-test.ensures) q) c.lower_binary.ensures
 
 -- operators
 
@@ -385,10 +410,16 @@ pub lower_length-returns-in-Some : goal.lower_length-returns-in-Some
 lower_length-returns-in-Some t c =
     rw (one_expr c.args.list.now c.e-item.result (omega arith) (sym c.e-item.is)) (ok_map _ (λ i p. count_lowered (expr_of c.e-item.result) c.requires c.in-Some.ensures p) c.push_value-in-Some.ensures)
 
+pub lower_length-returns-in-Some-2 : goal.lower_length-returns-in-Some-2
+lower_length-returns-in-Some-2 t c =
+    let is = one_expr c.args.list.now c.e-item.result (omega arith) (sym c.e-item.is) in
+    let found = rw (c.in-Some-2.is, is) at c.in_ok-operands-in-len1.ensures in
+    rw is (ok_map _ (λ i p. length_of_operand (expr_of c.e-item.result) c.requires c.in_default-measured.ensures found p) c.push_value-in-Some-2.ensures)
+
 pub lower_length-returns-in_ok-length-in-len1 : goal.lower_length-returns-in_ok-length-in-len1
 lower_length-returns-in_ok-length-in-len1 t c =
     rw (one_expr c.args.list.now c.e-item.result (omega arith) (sym c.e-item.is))
-    (ok_map _ (λ i q. length_of_lowered (expr_of c.e-item.result) c.requires c.in_default-measured.ensures c.in_ok-length-in-len1.ensures q) c.lower.ensures)
+    (ok_map _ (λ i q. behind (rw c.in_default-2.is at c.in_ok-operands-in-len1.ensures) (length_of_lowered (expr_of c.e-item.result) (still (rw c.in_default-2.is at c.in_ok-operands-in-len1.ensures) c.requires) c.in_default-measured.ensures c.in_ok-length-in-len1.ensures q)) c.lower.ensures)
 
 pub lower_flush-returns-in-empty : goal.lower_flush-returns-in-empty
 lower_flush-returns-in-empty t c = rw (exprs_over c.args.list.now 0 (omega arith)) (ok_map _ (λ i p. flush_all_lowered c.requires p) c.push_value.ensures)
@@ -422,6 +453,27 @@ lower_substitute-returns-in_ok-right-in-len3 t c =
     rw (three_exprs c.args.list.now c.pattern-item-then-list-lt4.result c.replacement-item-then-list-lt4.result c.place-item.result c.in-len3.len_at_least c.in-len3.len_below c.pattern-item-then-list-lt4.is c.replacement-item-then-list-lt4.is c.place-item.is)
     (ok_map _ (λ i q. substitute_place_lowered c.args.all c.in_ok-number-in-len3.number c.requires c.in_ok-target-in-len3.ensures c.in_ok-number-in-len3.ensures c.in_ok-substitute-in-len3.ensures c.in_ok-old-in-len3.ensures c.in_ok-operand-in-len3.ensures c.in_ok-right-in-len3.ensures q) c.lower_unless_ere-in-len3.ensures)
 
+pub lower_in_place-returns-then-not-reads_in_place : goal.lower_in_place-returns-then-not-reads_in_place
+lower_in_place-returns-then-not-reads_in_place t c = same
+
+pub lower_in_place-returns-in-Some : goal.lower_in_place-returns-in-Some
+lower_in_place-returns-in-Some t c =
+    operands_applied c.args.function (sym c.reads_in_place.ensures ∙ c.if-not-reads_in_place.false) c.requires (rw c.in-Some.is at c.in_ok-operands.ensures) c.in_ok-place.ensures
+
+pub lower_in_place-returns-in_default-2 : goal.lower_in_place-returns-in_default-2
+lower_in_place-returns-in_default-2 t c =
+    let before = rw c.in_default.is at c.in_ok-operands.ensures in
+    extends before (rw c.in_default-2.is at c.in_ok-operand.ensures)
+
+pub lower_in_place-returns : goal.lower_in_place-returns
+lower_in_place-returns t c =
+    let before = rw c.in_default.is at c.in_ok-operands.ensures in
+    let split = c.in-Some-split_first.ensures.cases.0 in
+    let first = rw split at (rw c.in-Some-2.is at c.in_ok-operand.ensures) in
+    rw (ap exprs_of split)
+    (behind before (behind_applied c.args.function (sym c.reads_in_place.ensures ∙ c.if-not-reads_in_place.false) (c.is_read_behind.ensures c.if-not-is_read_behind.false) (still before c.requires) first
+    (c.in_ok-count.ensures ∙ sym (count_exprs c.in-Some-split_first.others.now)) c.in_ok-last.ensures c.in_ok-place-2.ensures))
+
 pub lower_built_in-returns-in_ok-last-in_default : goal.lower_built_in-returns-in_ok-last-in_default
 lower_built_in-returns-in_ok-last-in_default t c =
     let one : c.takes_one.result ≡ true → c.in_ok-count-in_default.count ≡ 1 =
@@ -437,5 +489,6 @@ lower_built_in-returns-in_ok-last-in_default t c =
       no_sub = λ e. c.in_default.not-Sub e;
       no_gsub = λ e. c.in_default.not-Gsub e;
     } in
-    ok_map _ (λ i q. strict_applied c.args.function c.in_ok-count-in_default.count plain (λ h. one (c.takes_one.ensures ∙ h)) (c.in_ok-count-in_default.ensures ∙ sym (count_exprs c.args.list.now)) c.requires
-    (rw c.strict_node.ensures at c.in_ok-last-in_default.ensures) q) c.lower_all.ensures
+    let before = rw c.in_default-2.is at c.in_ok-place-in_default.ensures in
+    ok_map _ (λ i q. behind before (strict_applied c.args.function c.in_ok-count-in_default.count plain (λ h. one (c.takes_one.ensures ∙ h)) (c.in_ok-count-in_default.ensures ∙ sym (count_exprs c.args.list.now)) (still before c.requires)
+    (rw c.strict_node.ensures at c.in_ok-last-in_default.ensures) q)) c.lower_all.ensures

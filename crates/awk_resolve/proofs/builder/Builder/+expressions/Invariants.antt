@@ -97,6 +97,9 @@ decreases-lower_split l = 5 * goal.size-lower_split l + 2
 abbrev pub decreases-lower_substitute : goal.decreases-lower_substitute
 decreases-lower_substitute l = 5 * goal.size-lower_substitute l + 2
 
+abbrev pub decreases-lower_in_place : goal.decreases-lower_in_place
+decreases-lower_in_place l = 5 * goal.size-lower_in_place l + 2
+
 abbrev pub decreases-lower_built_in : goal.decreases-lower_built_in
 decreases-lower_built_in l = 5 * goal.size-lower_built_in l + 3
 
@@ -111,6 +114,9 @@ decreases-lower_binary l = 5 * max (size-Expr l.a.now) (size-Expr l.b.now) + 3
 
 abbrev pub decreases-lower_comparison : goal.decreases-lower_comparison
 decreases-lower_comparison l = 5 * max (size-Expr l.a.now) (size-Expr l.b.now) + 4
+
+abbrev pub decreases-lower_match_test : goal.decreases-lower_match_test
+decreases-lower_match_test l = 5 * max (size-Expr l.a.now) (size-Expr l.b.now) + 4
 
 abbrev pub decreases-lower_assign : goal.decreases-lower_assign
 decreases-lower_assign l = 5 * max (size-Expr l.place.now) (size-Expr l.e.now) + 3

@@ -1,13 +1,16 @@
-use Rattle.awk_resolve.proofs.ChangeForms.{assignment_built}
+use Rattle.awk_grammar.specs.Tree.{Assign}
+use Rattle.awk_grammar.specs.View.{expr_of}
+use Rattle.awk_resolve.proofs.Building.{ok_map}
+use Rattle.awk_resolve.proofs.ChangeForms.{change_behind, exits_stand}
 use Rattle.awk_resolve.proofs.builder.Builder.lower_assignment.Goals as goal
 
-pub lower_append_to-requires : goal.lower_append_to-requires
-lower_append_to-requires c = let appends = rw c.in-Some.is at c.appended.ensures in record { stand = c.requires; append = appends.begins }
+pub lower_any_assignment-requires : goal.lower_any_assignment-requires
+lower_any_assignment-requires c = exits_stand (rw c.in_default.is at c.in_ok-append.ensures) c.requires
 
-pub returns-in-Some : goal.returns-in-Some
-returns-in-Some c =
-    let appends = rw c.in-Some.is at c.appended.ensures in
-    rw (appends.operator, appends.named) c.lower_append_to.ensures
+pub returns-in_default : goal.returns-in_default
+returns-in_default c =
+    let before = rw c.in_default.is at c.in_ok-append.ensures in
+    ok_map _ (λ place q. change_behind _ c.args.exits c.args.scope.now place (Assign c.args.o (expr_of c.args.place.now) (expr_of c.args.right.now)) before q) c.lower_any_assignment.ensures
 
 pub returns : goal.returns
-returns c = assignment_built c.requires.next c.in_ok-target.ensures c.args.o c.in_ok-assign.ensures c.in_ok-value.ensures c.in_ok-operand.ensures c.in_ok-step.ensures
+returns c = rw c.in-Some.is at c.in_ok-append.ensures

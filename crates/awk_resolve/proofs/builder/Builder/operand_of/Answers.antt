@@ -14,3 +14,6 @@ returns-in_ok-clone-in-String c = rw (ap expr_of c.in-String.is, c.in_ok-clone-i
 
 pub returns-in_ok-variable_operand-in-Name : goal.returns-in_ok-variable_operand-in-Name
 returns-in_ok-variable_operand-in-Name c = rw (ap expr_of c.in-Name.is) c.in_ok-variable_operand-in-Name.ensures
+
+pub returns-in-Field : goal.returns-in-Field
+returns-in-Field c = rw (ap expr_of c.in-Field.is) (rw c.deref.ensures at c.field_operand.ensures)

@@ -1,0 +1,17 @@
+use Rattle.std.proofs.Common.{◌≡◌, ◌<◌, length, Some, slice_get, refl, arith}
+use Rattle.std.proofs.lemmas.Result.{err_from_is_err_and}
+use Rattle.std.proofs.lemmas.Option.{slice_get_read}
+use Rattle.awk_runtime.proofs.Composition.{memory_changes}
+use Rattle.awk_runtime.proofs.AppendWords.{slot_appended_at}
+use Rattle.awk_runtime.proofs.runtime.Runtime.append_bytes_to.Goals as goal
+
+pub returns-in_err-append_bytes-clause-refused : goal.returns-in_err-append_bytes-clause-refused
+returns-in_err-append_bytes-clause-refused c =
+    let p = err_from_is_err_and c.from_residual.result c.from_residual.ensures.1 in
+    rw (p.1, p.2, (c.in_err-append_bytes.ensures {u = tt}).fault) (λ run. memory_changes run refl refl (omega arith))
+
+pub returns-clause-appends : goal.returns-clause-appends
+returns-clause-appends c = λ _ operand.
+    let within : c.in-Global.slot < length c.args.self.now.globals.items = omega (arith, c.len.ensures, c.if-slot-len.false, c.args.self.now.globals.ok.0) in
+    let at : slice_get c.args.self.now.globals.items c.in-Global.slot ≡ Some c.index_mut.result.now = slice_get_read _ (length c.args.self.now.globals.items) _ _ refl within c.index_mut.ensures.value in
+    rw (c.in-Global.is, (c.in_ok-append_bytes.ensures {u = tt}).text) (slot_appended_at c.in-Global.slot c.index_mut.result.now c.args.bytes.now at c.law_of_slots.ensures.own c.law_of_slots.ensures.distinct refl refl (record { names = refl; current = refl; arrays = refl; frames = refl; streams = refl; next = refl; input_seen = refl; inside = refl; status = refl; steps = refl }) operand)
