@@ -26,13 +26,13 @@ use Rattle.awk_merging.proofs.Reading.{element_read, element_stored, stored_read
 
 -- the sum of what is there and a number
 
-plus_at : (table : Table ℤ) (key : List ℕ) (n : ℤ) (w : Value) → num_of w ≡ Ok n → is_in_range (number_at table key +ℤ n) ≡ true → applied operator.Plus (unwrap_or (value_at (numbers table) key) value.Nothing) w ≡ Ok (value.Number (number_at table key +ℤ n))
+pub plus_at : (table : Table ℤ) (key : List ℕ) (n : ℤ) (w : Value) → num_of w ≡ Ok n → is_in_range (number_at table key +ℤ n) ≡ true → applied operator.Plus (unwrap_or (value_at (numbers table) key) value.Nothing) w ≡ Ok (value.Number (number_at table key +ℤ n))
 plus_at table key n w is fits = rw (number_found table key, is, fits) refl
 
-one_more : (m : ℤ) → is_in_range (m +ℤ pos 1) ≡ true → applied operator.Plus (value.Number m) one ≡ Ok (value.Number (m +ℤ pos 1))
+pub one_more : (m : ℤ) → is_in_range (m +ℤ pos 1) ≡ true → applied operator.Plus (value.Number m) one ≡ Ok (value.Number (m +ℤ pos 1))
 one_more m fits = rw fits refl
 
-alone_number : (m : Option ℤ) → num_of (number_or_none m) ≡ Ok (number_at (alone m) [])
+pub alone_number : (m : Option ℤ) → num_of (number_or_none m) ≡ Ok (number_at (alone m) [])
 alone_number None = refl
 alone_number (Some m) = refl
 

@@ -1,5 +1,5 @@
 -- The lines of a cell are records.
-use Rattle.std.proofs.Common.{◌≡◌, inl, inr, ℕ, suc, ◌+◌, ◌*◌, ◌%◌, ◌<◌, ◌≤◌, ◌^◌, ◌==◌, nat_lt, ℤ, pos, negsuc, true, false, List, [], ◌∷◌, ◌++◌, length, Option, Some, None, Ok, refl, sym, ap, ◌∙◌, arith}
+use Rattle.std.proofs.Common.{◌≡◌, inl, inr, ℕ, suc, ◌+◌, ◌*◌, ◌%◌, ◌<◌, ◌≤◌, ◌^◌, ◌==◌, nat_lt, ℤ, pos, negsuc, true, false, List, [], ◌∷◌, ◌++◌, length, Option, Some, None, Ok, refl, sym, ap, ◌∙◌, arith, append_assoc}
 use Rattle.std.specs.Char.{digit_value}
 use Rattle.std.specs.Fmt.{decimal, signed_decimal}
 use Rattle.std.specs.Str.Parse.{AllDigits}
@@ -70,3 +70,9 @@ second_line j = let e : suc (suc (3 * j)) % 3 ≡ 2 = omega arith in ap (λ (n :
 
 pub third_line : (j : ℕ) → applied operator.Remainder (value.Number (pos (suc (suc (suc (3 * j)))))) (value.Number (pos 3)) ≡ Ok (value.Number (pos 0))
 third_line j = let e : suc (suc (suc (3 * j))) % 3 ≡ 0 = omega arith in ap (λ (n : ℕ). Ok (value.Number (pos n))) e
+
+-- the text of a cell, with more behind it
+pub cell_front : (name key number rest : List ℕ) → (name ++ (10 ∷ (key ++ (10 ∷ (number ++ (10 ∷ [])))))) ++ rest ≡ name ++ (10 ∷ (key ++ (10 ∷ (number ++ (10 ∷ rest)))))
+cell_front name key number rest =
+    append_assoc name (10 ∷ (key ++ (10 ∷ (number ++ (10 ∷ []))))) rest
+    ∙ ap (λ (l : List ℕ). name ++ (10 ∷ l)) (append_assoc key (10 ∷ (number ++ (10 ∷ []))) rest ∙ ap (λ (l : List ℕ). key ++ (10 ∷ l)) (append_assoc number (10 ∷ []) rest))

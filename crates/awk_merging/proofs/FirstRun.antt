@@ -13,7 +13,7 @@ use Rattle.awk_merging.specs.definitions.LawOfEach.{LawOfEach}
 use Rattle.awk_merging.proofs.Cells.{sums_show}
 use Rattle.awk_merging.proofs.DerivedParts.{law_of_derived}
 
-has_end : (block : Statements) (xs : List Item) → has_rule (without_ends xs ++ End block ∷ []) ≡ true
+pub has_end : (block : Statements) (xs : List Item) → has_rule (without_ends xs ++ End block ∷ []) ≡ true
 has_end block [] = refl
 has_end block (Begin b ∷ xs) = has_end block xs
 has_end block (End b ∷ xs) = has_end block xs

@@ -22,7 +22,7 @@ apart_turned a b apart = elim (cases_Bool (bytes_eq b a)) [
   | inr turned ↦ turned
 ]
 
-apart_from : (key other third : List ℕ) → bytes_eq key third ≡ true → bytes_eq other third ≡ true → bytes_eq key other ≡ false → ⊥
+pub apart_from : (key other third : List ℕ) → bytes_eq key third ≡ true → bytes_eq other third ≡ true → bytes_eq key other ≡ false → ⊥
 apart_from key other third same also apart = not_both (bytes_eq key other) ((bytes_eq-Decides key other).1 (same_key key third same ∙ sym (same_key other third also))) apart
 
 -- the key is in the table
@@ -31,7 +31,7 @@ Has [] key = ⊥
 Has (x ∷ xs) key = (bytes_eq key x.0 ≡ true) ⊎ Has xs key
 
 -- no key is in the table twice
-abbrev IsOrderly : {V : Type 0} → Table V → Type 0
+abbrev pub IsOrderly : {V : Type 0} → Table V → Type 0
 IsOrderly [] = Unit {0}
 IsOrderly (x ∷ xs) = IsFree xs x.0 × IsOrderly xs
 
@@ -129,7 +129,7 @@ module _ {V U : Type 0} (way : Way V U) (can : IsReplayable way) where
       ∙ ap (λ (t : Table V). replayed way t xs) (swapped table key x.0 (way.replay x.1) u has free.0)
 
   -- to replay a table with one more update is to replay the table, and then to make the update
-  replay_one_more : (table xs : Table V) (key : List ℕ) (u : U) → IsOrderly xs → replayed way table (put xs key u) ≡ put (replayed way table xs) key u
+  pub replay_one_more : (table xs : Table V) (key : List ℕ) (u : U) → IsOrderly xs → replayed way table (put xs key u) ≡ put (replayed way table xs) key u
   replay_one_more table [] key u orderly = replay_made table key u
   replay_one_more table (x ∷ xs) key u orderly = elim (cases_Bool (bytes_eq key x.0)) [
     | inl is ↦
@@ -143,7 +143,7 @@ module _ {V U : Type 0} (way : Way V U) (can : IsReplayable way) where
 
   -- a table stays orderly
 
-  free_still : (xs : Table V) (key other : List ℕ) (u : U) → bytes_eq key other ≡ false → IsFree xs key → IsFree (put xs other u) key
+  pub free_still : (xs : Table V) (key other : List ℕ) (u : U) → bytes_eq key other ≡ false → IsFree xs key → IsFree (put xs other u) key
   free_still [] key other u apart free = (apart, tt)
   free_still (x ∷ xs) key other u apart free = elim (cases_Bool (bytes_eq other x.0)) [
     | inl is ↦ subst (λ (t : Table V). IsFree t key) (sym (at_first x xs other u is)) free

@@ -10,7 +10,7 @@ use Rattle.awk_merging.proofs.Gathering.{apart_turned}
 
 -- names of their own
 
-abbrev AreApart : List Sum → Type 0
+abbrev pub AreApart : List Sum → Type 0
 AreApart [] = Unit {0}
 AreApart (x ∷ xs) = IsUnnamed (name_of_sum x) xs × AreApart xs
 
@@ -41,7 +41,7 @@ pub apart_once : (xs : List Sum) → AreApart (each_once xs)
 apart_once [] = tt
 apart_once (x ∷ xs) = (unnamed_left (name_of_sum x) (each_once xs), still_apart (name_of_sum x) (each_once xs) (apart_once xs))
 
-one_unnamed : (name : List ℕ) (x : Sum) (xs : List Sum) → IsUnnamed name xs → IsOneOf x xs → bytes_eq name (name_of_sum x) ≡ false
+pub one_unnamed : (name : List ℕ) (x : Sum) (xs : List Sum) → IsUnnamed name xs → IsOneOf x xs → bytes_eq name (name_of_sum x) ≡ false
 one_unnamed name x [] unnamed is = absurd is
 one_unnamed name x (y ∷ ys) unnamed (inl is) = subst (λ (z : Sum). bytes_eq name (name_of_sum z) ≡ false) (sym is) unnamed.0
 one_unnamed name x (y ∷ ys) unnamed (inr later) = one_unnamed name x ys unnamed.1 later
@@ -53,7 +53,7 @@ is_among x (y ∷ ys) apart (inr later) = inr (apart_turned (name_of_sum y) (nam
 
 -- no name that is taken
 
-abbrev AreProper : List Sum → Type 0
+abbrev pub AreProper : List Sum → Type 0
 AreProper [] = Unit {0}
 AreProper (x ∷ xs) = (is_taken (name_of_sum x) ≡ false) × AreProper xs
 

@@ -35,8 +35,9 @@ use Rattle.awk_merging.specs.definitions.Sums.{Sum, ByKey, Alone, name_of_sum, m
 use Rattle.awk_merging.proofs.Gathering.{same_key, own_key, not_both}
 use Rattle.awk_merging.proofs.Decimals.{read_again}
 use Rattle.awk_merging.proofs.Cells.{apart_from_taken}
+use Rattle.awk_merging.proofs.Sound.{is_aside, other_number}
 use Rattle.awk_merging.proofs.SumArrays.{from_zero, number_found, number_stored, key_stays}
-use Rattle.awk_merging.specs.definitions.LawOfReading.{state_on, IsLineOf, IsUnnamed, IsAmong, key_for, number_at, IsAdded, Adds, LawOfReading}
+use Rattle.awk_merging.specs.definitions.LawOfReading.{state_on, IsLineOf, IsUnnamed, IsAmong, IsElsewhere, IsAside, key_for, number_at, IsAdded, Adds, LawOfReading}
 
 -- how a text from outside and one of the program compare
 
@@ -65,7 +66,7 @@ alone_sum : (m : Option ℤ) (n : ℤ) (text : List ℕ) → text ≡ signed_dec
 alone_sum None n text is fits sum_fits = rw (is, read_again n fits, sum_fits) refl
 alone_sum (Some m) n text is fits sum_fits = rw (is, read_again n fits, sum_fits) refl
 
-alone_updated : (m : Option ℤ) (n : ℤ) → updated sums (alone m) [] n ≡ alone (Some (number_at (alone m) [] +ℤ n))
+pub alone_updated : (m : Option ℤ) (n : ℤ) → updated sums (alone m) [] n ≡ alone (Some (number_at (alone m) [] +ℤ n))
 alone_updated None n = ap (λ (z : ℤ). ([], z) ∷ []) (sym (from_zero n))
 alone_updated (Some m) n = refl
 
@@ -136,8 +137,9 @@ module _ (functions : Functions) (base : State) (c : RecordPair) (arrays : List 
     values : List ℕ → Value
     is : exec functions (add_record (place_of_sum x)) (at v (suc k)) ≡ gives flow.Normal (state_on base c arrays_then values k)
     adds : Holds (state_on base c arrays_then values k) x (updated sums table (key_for x key) n)
-    keeps : (z : List ℕ) → bytes_eq (name_of_sum x) z ≡ false → values z ≡ v z
+    keeps : (z : List ℕ) → IsAside x z → values z ≡ v z
     others : (y : Sum) (other : Table ℤ) → bytes_eq (name_of_sum x) (name_of_sum y) ≡ false → Holds (at v k) y other → Holds (state_on base c arrays_then values k) y other
+    elsewhere : (z : List ℕ) → IsElsewhere x z → unwrap_or (slice_get arrays_then (number_in base.array_names z)) [] ≡ unwrap_or (slice_get arrays (number_in base.array_names z)) []
 
   module _ (a : List ℕ) (table : Table ℤ) (v : List ℕ → Value) (k : ℕ) (holds : Holds (at v k) (ByKey a) table) where
     abbrev here : ℕ
@@ -146,7 +148,7 @@ module _ (functions : Functions) (base : State) (c : RecordPair) (arrays : List 
     abbrev behind : List ℕ → ℤ → List Array
     behind key n = slice_set arrays here (numbers (updated sums table key n))
 
-    got : (array : Array) → unwrap_or (slice_get (slice_set arrays here array) here) [] ≡ array
+    pub got : (array : Array) → unwrap_or (slice_get (slice_set arrays here array) here) [] ≡ array
     got array = unwrap_or-slice_get (slice_set arrays here array) here [] ∙ get_or-set_same arrays here array [] holds.1
 
     pub element_read : (key : List ℕ) → read_element a key (at v k) ≡ gives (unwrap_or (value_at (numbers table) key) value.Nothing) (state_on base c (slice_set arrays here (with_key (numbers table) key)) v k)
@@ -189,7 +191,7 @@ module _ (functions : Functions) (base : State) (c : RecordPair) (arrays : List 
     unfolding exec exec_simple spend lift ◌>>=◌ go_on
     statement_added key n is sum = rw (key_added key n is sum) refl
 
-    others_still : (key : List ℕ) (n : ℤ) (y : Sum) (other : Table ℤ) → bytes_eq a (name_of_sum y) ≡ false → Holds (at v k) y other → Holds (state_on base c (behind key n) v k) y other
+    pub others_still : (key : List ℕ) (n : ℤ) (y : Sum) (other : Table ℤ) → bytes_eq a (name_of_sum y) ≡ false → Holds (at v k) y other → Holds (state_on base c (behind key n) v k) y other
     others_still key n (Alone x) other apart has = has
     others_still key n (ByKey b) other apart has =
         let there : ℕ = number_in base.array_names b in
@@ -200,6 +202,12 @@ module _ (functions : Functions) (base : State) (c : RecordPair) (arrays : List 
           unwrap_or-slice_get set there [] ∙ get_or-set_other arrays here there (numbers (updated sums table key n)) [] elsewhere ∙ sym (unwrap_or-slice_get arrays there []) ∙ has.2,
         )
 
+    pub elements_still : (key : List ℕ) (n : ℤ) (z : List ℕ) → bytes_eq a z ≡ false → unwrap_or (slice_get (behind key n) (number_in base.array_names z)) [] ≡ unwrap_or (slice_get arrays (number_in base.array_names z)) []
+    elements_still key n z apart =
+        unwrap_or-slice_get (behind key n) (number_in base.array_names z) []
+        ∙ get_or-set_other arrays here (number_in base.array_names z) (numbers (updated sums table key n)) [] (other_number base.array_names a z holds.0 apart)
+        ∙ sym (unwrap_or-slice_get arrays (number_in base.array_names z) [])
+
     by_key_adds : (key : List ℕ) (n : ℤ) → IsAdded c v (ByKey a) table key n → Added v k (ByKey a) table key n
     by_key_adds key n added = record {
       arrays_then = behind key n;
@@ -208,6 +216,7 @@ module _ (functions : Functions) (base : State) (c : RecordPair) (arrays : List 
       adds = (holds.0, omega (arith, holds.1, length-set arrays here (numbers (updated sums table key n))), got (numbers (updated sums table key n)));
       keeps = λ z e. refl;
       others = others_still key n;
+      elsewhere = elements_still key n;
     }
 
   module _ (x : List ℕ) (proper : is_taken x ≡ false) (v : List ℕ → Value) (k : ℕ) where
@@ -226,7 +235,7 @@ module _ (functions : Functions) (base : State) (c : RecordPair) (arrays : List 
     unfolding exec exec_simple spend eval place_of read_field store assign assign_by read_place lift ◌>>=◌ go_on
     variable_added w s is sum = rw (variable_read v, is, sum, variable_put s, variable_read (with_value v x s)) refl
 
-    alone_others : (s : Value) (y : Sum) (other : Table ℤ) → bytes_eq x (name_of_sum y) ≡ false → Holds (at v k) y other → Holds (at (with_value v x s) k) y other
+    pub alone_others : (s : Value) (y : Sum) (other : Table ℤ) → bytes_eq x (name_of_sum y) ≡ false → Holds (at v k) y other → Holds (at (with_value v x s) k) y other
     alone_others s (ByKey b) other apart has = has
     alone_others s (Alone y) other apart has = (has.0, cond-false _ _ _ apart ∙ has.1, has.2)
 
@@ -241,6 +250,7 @@ module _ (functions : Functions) (base : State) (c : RecordPair) (arrays : List 
           adds = (Some sum, cond-true _ _ _ (own_key x), rw holds.2 (alone_updated holds.0 n));
           keeps = λ z e. cond-false _ _ _ e;
           others = alone_others (value.Number sum);
+          elsewhere = λ z e. refl;
         }
 
   sum_adds : (x : Sum) (table : Table ℤ) (key : List ℕ) (n : ℤ) (v : List ℕ → Value) (k : ℕ) → is_taken (name_of_sum x) ≡ false → Holds (at v k) x table → IsAdded c v x table key n → Added v k x table key n
@@ -256,12 +266,12 @@ module _ (functions : Functions) (base : State) (c : RecordPair) (arrays : List 
   unfolding try_items try_item run_action exec_all lift ◌>>=◌ go_on
   own_tried m ys unnamed =
       let one = sum_adds functions base c arrays x table key n v k proper holds added in
-      let what : one.values merge_what ≡ value.Input (name_of_sum x) = one.keeps merge_what (apart_from_taken (name_of_sum x) merge_what proper refl) ∙ added.what in
+      let what : one.values merge_what ≡ value.Input (name_of_sum x) = one.keeps merge_what (is_aside x merge_what (apart_from_taken (name_of_sum x) merge_what proper refl)) ∙ added.what in
       rw (
         name_tested functions base c arrays m (name_of_sum x) (name_of_sum x) v (suc k) true added.what (own_key (name_of_sum x)),
         one.is,
         unnamed_pass functions base c one.arrays_then (suc m) (name_of_sum x) ys one.values k what unnamed,
-      ) (record { arrays_then = one.arrays_then; values = one.values; is = refl; adds = one.adds; keeps = one.keeps; others = one.others })
+      ) (record { arrays_then = one.arrays_then; values = one.values; is = refl; adds = one.adds; keeps = one.keeps; others = one.others; elsewhere = one.elsewhere })
 
   tries : (m : ℕ) (xs : List Sum) → IsAmong x xs → Does (try_items functions m (read_sums xs) (state_on base c arrays v (suc k)))
   unfolding try_items try_item lift ◌>>=◌ go_on

@@ -22,7 +22,7 @@ use Rattle.awk_merging.specs.definitions.LawOfAll.{state_begun, WillRead, EndsWi
 use Rattle.awk_merging.proofs.Cells.{apart_from_taken}
 use Rattle.awk_merging.proofs.Gathering.{apart_turned}
 use Rattle.awk_merging.proofs.DerivedParts.{law_of_derived}
-use Rattle.awk_merging.proofs.States.{Values, uncounted, requests_append, law_of_states}
+use Rattle.awk_merging.proofs.States.{Values, uncounted, readings_append, law_of_states}
 
 -- there are turns enough, as there are steps
 
@@ -43,7 +43,7 @@ turns_left (x ∷ cells) left =
     let is = rest.1 in
     (suc (suc (suc (suc (suc rest.0)))), omega (arith, one, two, three, four, five, is))
 
-has_rules : (xs ys : List Item) → has_rule ys ≡ true → has_rule (begins_of xs ++ ys) ≡ true
+pub has_rules : (xs ys : List Item) → has_rule ys ≡ true → has_rule (begins_of xs ++ ys) ≡ true
 has_rules [] ys has = has
 has_rules (Begin b ∷ xs) ys has = has_rules xs ys has
 has_rules (End b ∷ xs) ys has = has_rules xs ys has
@@ -53,7 +53,7 @@ has_rules (PatternOnly p ∷ xs) ys has = has_rules xs ys has
 has_rules (Function f parameters b ∷ xs) ys has = has_rules xs ys has
 
 -- what is held stays, where the arrays and the variables of sums do
-same_held : (s t : State) → s.array_names ≡ t.array_names → s.arrays ≡ t.arrays → ((z : List ℕ) → is_taken z ≡ false → t.variables z ≡ s.variables z) → (xs : List Sum) (tables : Tables) → HoldsAll s xs tables → HoldsAll t xs tables
+pub same_held : (s t : State) → s.array_names ≡ t.array_names → s.arrays ≡ t.arrays → ((z : List ℕ) → is_taken z ≡ false → t.variables z ≡ s.variables z) → (xs : List Sum) (tables : Tables) → HoldsAll s xs tables → HoldsAll t xs tables
 same_held s t names arrays values [] tables holds = tt
 same_held s t names arrays values (ByKey a ∷ xs) tables holds = (
   holds.0,
@@ -104,7 +104,7 @@ module _ (functions : Functions) (items : List Item) (base : State) (c : RecordP
   abbrev out : Out (Unit {0})
   out = each_record (turns_of cells (suc turns)) reads (state_reading open_base (text ++ []) c base.arrays (opened v) (steps_of cells left))
 
-  reads_on : ReadsOn open_base reads xs (behind_cells tables cells) [] (opened v) (0 + length cells) (suc turns) left out
+  reads_on : ReadsOn open_base reads xs (behind_cells tables cells) [] base.arrays (opened v) (0 + length cells) (suc turns) left out
   reads_on = law_of_states functions 0 xs open_base cells tables added [] c base.arrays (opened v) 0 (suc turns) left (omega (arith, will.few)) (record { rs = will.rs; argc = will.argc; nr = will.nr; fnr = refl })
       (same_held (begun left) (state_reading open_base (text ++ []) c base.arrays (opened v) (steps_of cells left)) refl refl opened_sums xs tables holds)
 
@@ -148,14 +148,18 @@ module _ (functions : Functions) (items : List Item) (base : State) (c : RecordP
     unfolding run_items until_exit ◌>>=◌ go_on
     all_is = rw (before_end_is, law_of_derived.all_ends functions items before) refl
 
-    ends_with : EndsWith functions items xs (behind_cells tables cells) v left (run_items functions (all_of items) s)
+    ends_with : EndsWith functions items xs (behind_cells tables cells) base.array_names base.arrays v left (run_items functions (all_of items) s)
     ends_with = record {
       before = before;
       effects = shown;
-      requests = requests_append reads_on.effects last reads_on.requests tt;
+      readings = readings_append reads_on.effects last reads_on.readings tt;
       holds = same_held (state_reading open_base [] reads_on.current reads_on.arrays reads_on.values left) before refl refl (λ z proper. refl) xs (behind_cells tables cells) reads_on.holds;
       keeps = λ z unnamed not name. reads_on.keeps z unnamed not ∙ opened_same z name (uncounted z (codes "FNR") not refl);
       steps = refl;
+      outside_calls = refl;
+      status = refl;
+      names = refl;
+      elsewhere = reads_on.elsewhere;
       is = all_is;
     }
 

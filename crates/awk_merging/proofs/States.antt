@@ -11,7 +11,7 @@ use Rattle.awk_record.specs.definitions.Cut.{AtEnd}
 use Rattle.awk_record.specs.Record.{RecordPair, split_by}
 use Rattle.awk_kinds.specs.Variables.{with_value}
 use Rattle.awk_semantics.specs.declared.halt.Halt.TheVariants as halt
-use Rattle.awk_semantics.specs.definitions.State.{RecordOfMain, Effect, Printed, Requested, State, Out, Run, go_on, ◌>>=◌, gives, ends}
+use Rattle.awk_semantics.specs.definitions.State.{OpensMain, RecordOfMain, Effect, Printed, Requested, State, Out, Run, go_on, ◌>>=◌, gives, ends}
 use Rattle.awk_semantics.specs.definitions.Semantics.{Functions}
 use Rattle.awk_semantics.specs.definitions.Items.{try_items, until_next, each_record}
 use Rattle.awk_pieces.proofs.Alike.{behind}
@@ -20,18 +20,19 @@ use Rattle.awk_pieces.proofs.RecordsFound.{Counts, counted, rule_for, record_fou
 use Rattle.awk_merging.specs.definitions.Gathering.{Table, updated, sums}
 use Rattle.awk_merging.specs.definitions.Sums.{Sum, ByKey, Alone, name_of_sum, merge_what, merge_key, reading_rules, is_taken, Holds, cell_text}
 use Rattle.awk_merging.specs.definitions.LawOfReading.{IsLineOf, IsUnnamed, IsAmong, key_for, number_at, Adds}
-use Rattle.awk_merging.specs.definitions.LawOfStates.{Cell, Cells, text_of_cells, Tables, with_cell, behind_cells, HoldsAll, IsRecord, AreAdded, state_reading, HasRead, AreRequests, is_counted, ReadsOn, turns_of, steps_of, LawOfStates}
+use Rattle.awk_merging.specs.definitions.LawOfStates.{Cell, Cells, text_of_cells, Tables, with_cell, behind_cells, HoldsAll, IsRecord, AreAdded, state_reading, HasRead, AreReadings, is_counted, ReadsOn, turns_of, steps_of, LawOfStates}
 use Rattle.awk_merging.proofs.Gathering.{same_key, own_key, not_both, apart_turned}
 use Rattle.awk_merging.proofs.Cells.{apart_from_taken}
-use Rattle.awk_merging.proofs.CellLines.{line_cut, number_record, first_line, second_line, third_line}
+use Rattle.awk_merging.proofs.CellLines.{cell_front, line_cut, number_record, first_line, second_line, third_line}
 use Rattle.awk_merging.proofs.Reading.{law_of_reading}
+use Rattle.awk_merging.proofs.Sound.{among_one, is_aside, not_array, not_variable}
 
 abbrev pub Values : Type 0
 Values = List ℕ → Value
 
 -- what is held, by one sum and by all
 
-holds_one : (s : State) (x : Sum) (ys : List Sum) (tables : Tables) → IsAmong x ys → HoldsAll s ys tables → (is_taken (name_of_sum x) ≡ false) × Holds s x (tables (name_of_sum x))
+pub holds_one : (s : State) (x : Sum) (ys : List Sum) (tables : Tables) → IsAmong x ys → HoldsAll s ys tables → (is_taken (name_of_sum x) ≡ false) × Holds s x (tables (name_of_sum x))
 holds_one s x [] tables among holds = absurd among
 holds_one s x (y ∷ ys) tables (inl is) holds = subst (λ (z : Sum). (is_taken (name_of_sum z) ≡ false) × Holds s z (tables (name_of_sum z))) (sym is.0) (holds.0, holds.1)
 holds_one s x (y ∷ ys) tables (inr later) holds = holds_one s x ys tables later.1 holds.2
@@ -53,7 +54,7 @@ module _ (s t : State) (x : Cell) (tables : Tables) (own : Holds t x.sum (update
     others_hold ys unnamed.1 holds.2,
   )
 
-  all_hold : (ys : List Sum) → IsAmong x.sum ys → HoldsAll s ys tables → HoldsAll t ys (with_cell tables x)
+  pub all_hold : (ys : List Sum) → IsAmong x.sum ys → HoldsAll s ys tables → HoldsAll t ys (with_cell tables x)
   all_hold [] among holds = absurd among
   all_hold (y ∷ ys) (inl is) holds = (
     holds.0,
@@ -87,10 +88,12 @@ kept_holds base left left' c c' arrays v w k l keeps (ByKey a ∷ ys) tables hol
 kept_holds base left left' c c' arrays v w k l keeps (Alone y ∷ ys) tables holds =
     (holds.0, (holds.1.0, keeps y holds.0 ∙ holds.1.1, holds.1.2), kept_holds base left left' c c' arrays v w k l keeps ys tables holds.2)
 
-pub requests_append : (es fs : List Effect) → AreRequests es → AreRequests fs → AreRequests (es ++ fs)
-requests_append [] fs a b = b
-requests_append (Printed n bytes ∷ es) fs a b = absurd a
-requests_append (Requested what ∷ es) fs a b = requests_append es fs a b
+pub readings_append : (es fs : List Effect) → AreReadings es → AreReadings fs → AreReadings (es ++ fs)
+readings_append [] fs a b = b
+readings_append (Requested (OpensMain kind name) ∷ es) fs a b = readings_append es fs a b
+readings_append (Requested (RecordOfMain separator left) ∷ es) fs a b = readings_append es fs a b
+readings_append (Requested what ∷ es) fs a b = absurd a
+readings_append (Printed n bytes ∷ es) fs a b = absurd a
 
 module _ (functions : Functions) (m : ℕ) (xs : List Sum) (base : State) where
   abbrev rules : Run (Unit {0})
@@ -210,18 +213,18 @@ module _ (functions : Functions) (m : ℕ) (xs : List Sum) (base : State) where
         ∙ ap (behind (asks third_text)) (goes_on turns (at more c3 arrays v3 (suc k)) more c3 third_adds.arrays_then third_adds.values k third_adds.is)))
 
     abbrev stays : (z : List ℕ) → is_taken z ≡ true → third_adds.values z ≡ v3 z
-    stays z taken = third_adds.keeps z (apart_from_taken name z proper taken)
+    stays z taken = third_adds.keeps z (is_aside x.sum z (apart_from_taken name z proper taken))
 
     three_more : suc (suc (suc (3 * count))) ≡ 3 * suc count
     three_more = omega arith
 
-    cell_read : ReadsOn base action xs (with_cell tables x) more v (suc count) turns k (each_record (suc (suc (suc turns))) action (at first_text c arrays v (suc (suc (suc (suc (suc (suc (suc (suc k))))))))))
+    cell_read : ReadsOn base action xs (with_cell tables x) more arrays v (suc count) turns k (each_record (suc (suc (suc turns))) action (at first_text c arrays v (suc (suc (suc (suc (suc (suc (suc (suc k))))))))))
     cell_read = record {
       current = c3;
       arrays = third_adds.arrays_then;
       values = third_adds.values;
       effects = asked;
-      requests = tt;
+      readings = tt;
       read = record {
         rs = ap str_of (stays (codes "RS") refl) ∙ read.rs;
         argc = stays (codes "ARGC") refl ∙ read.argc;
@@ -230,39 +233,36 @@ module _ (functions : Functions) (m : ℕ) (xs : List Sum) (base : State) where
       };
       holds = all_hold (at more c3 arrays v3 k) (at more c3 third_adds.arrays_then third_adds.values k) x tables third_adds.adds third_adds.others xs among all_held;
       keeps = λ z unnamed not.
-          third_adds.keeps z (apart_turned z name (unnamed_among z x.sum xs unnamed among))
+          third_adds.keeps z (not_variable x.sum xs z (among_one x.sum xs among) unnamed)
           ∙ others_are z (uncounted z merge_what not refl) (uncounted z merge_key not refl) (uncounted z (codes "NR") not refl) (uncounted z (codes "FNR") not refl);
+      elsewhere = λ z no_sum. third_adds.elsewhere z (not_array x.sum xs z (among_one x.sum xs among) no_sum);
       is = lines_read;
     }
 
   -- cells, one after the other
 
-  reads_then : (tables tables' : Tables) (between more : List ℕ) (v : Values) (count count' turns turns' k k' : ℕ) (out : Out (Unit {0})) → (first : ReadsOn base action xs tables between v count turns k out) →
-      ReadsOn base action xs tables' more first.values count' turns' k' (each_record turns action (at between first.current first.arrays first.values k)) → ReadsOn base action xs tables' more v count' turns' k' out
-  reads_then tables tables' between more v count count' turns turns' k k' out first rest = record {
+  reads_then : (tables tables' : Tables) (between more : List ℕ) (old : List Array) (v : Values) (count count' turns turns' k k' : ℕ) (out : Out (Unit {0})) → (first : ReadsOn base action xs tables between old v count turns k out) →
+      ReadsOn base action xs tables' more first.arrays first.values count' turns' k' (each_record turns action (at between first.current first.arrays first.values k)) → ReadsOn base action xs tables' more old v count' turns' k' out
+  reads_then tables tables' between more old v count count' turns turns' k k' out first rest = record {
     current = rest.current;
     arrays = rest.arrays;
     values = rest.values;
     effects = first.effects ++ rest.effects;
-    requests = requests_append first.effects rest.effects first.requests rest.requests;
+    readings = readings_append first.effects rest.effects first.readings rest.readings;
     read = rest.read;
     holds = rest.holds;
     keeps = λ z unnamed not. rest.keeps z unnamed not ∙ first.keeps z unnamed not;
+    elsewhere = λ z no_sum. rest.elsewhere z no_sum ∙ first.elsewhere z no_sum;
     is =
         let left = each_record turns' action (at more rest.current rest.arrays rest.values k') in
         first.is ∙ (ap (behind first.effects) rest.is ∙ ap (λ (l : List Effect). record { result = left.result; state = left.state; effects = l }) (sym (append_assoc first.effects rest.effects left.effects)));
   }
 
-  cell_front : (name key number rest : List ℕ) → (name ++ (10 ∷ (key ++ (10 ∷ (number ++ (10 ∷ [])))))) ++ rest ≡ name ++ (10 ∷ (key ++ (10 ∷ (number ++ (10 ∷ rest)))))
-  cell_front name key number rest =
-      append_assoc name (10 ∷ (key ++ (10 ∷ (number ++ (10 ∷ []))))) rest
-      ∙ ap (λ (l : List ℕ). name ++ (10 ∷ l)) (append_assoc key (10 ∷ (number ++ (10 ∷ []))) rest ∙ ap (λ (l : List ℕ). key ++ (10 ∷ l)) (append_assoc number (10 ∷ []) rest))
-
   cells_read : (cells : Cells) (tables : Tables) → AreAdded xs tables cells → (more : List ℕ) (c : RecordPair) (arrays : List Array) (v : Values) (count turns k : ℕ) → 3 * (count + length cells) < 2 ^ 127 → HasRead v count →
-      HoldsAll (at (text_of_cells cells ++ more) c arrays v (steps_of cells k)) xs tables → ReadsOn base action xs (behind_cells tables cells) more v (count + length cells) turns k (each_record (turns_of cells turns) action (at (text_of_cells cells ++ more) c arrays v (steps_of cells k)))
+      HoldsAll (at (text_of_cells cells ++ more) c arrays v (steps_of cells k)) xs tables → ReadsOn base action xs (behind_cells tables cells) more arrays v (count + length cells) turns k (each_record (turns_of cells turns) action (at (text_of_cells cells ++ more) c arrays v (steps_of cells k)))
   cells_read [] tables added more c arrays v count turns k fits read holds =
       let same : count ≡ count + 0 = omega arith in
-      record { current = c; arrays = arrays; values = v; effects = []; requests = tt; read = subst (λ (n : ℕ). HasRead v n) same read; holds = holds; keeps = λ z unnamed not. refl; is = refl }
+      record { current = c; arrays = arrays; values = v; effects = []; readings = tt; read = subst (λ (n : ℕ). HasRead v n) same read; holds = holds; keeps = λ z unnamed not. refl; elsewhere = λ z no_sum. refl; is = refl }
   cells_read (x ∷ cells) tables added more c arrays v count turns k fits read holds =
       let between : List ℕ = text_of_cells cells ++ more in
       let text : text_of_cells (x ∷ cells) ++ more ≡ name_of_sum x.sum ++ (10 ∷ (x.key ++ (10 ∷ (signed_decimal x.number ++ (10 ∷ between)))))
@@ -271,9 +271,9 @@ module _ (functions : Functions) (m : ℕ) (xs : List Sum) (base : State) where
       let number : suc count + length cells ≡ count + length (x ∷ cells) = omega (arith, size) in
       let first = cell_read x tables between c arrays v count (turns_of cells turns) (steps_of cells k) (omega (arith, size)) read added.0 added.1 added.2 added.3 added.4 (text_of_cells (x ∷ cells) ++ more) (steps_of (x ∷ cells) k) holds in
       let rest = cells_read cells (with_cell tables x) added.5 more first.current first.arrays first.values (suc count) turns k (omega (arith, size)) first.read first.holds in
-      let whole = reads_then (with_cell tables x) (behind_cells tables (x ∷ cells)) between more v (suc count) (suc count + length cells) (turns_of cells turns) turns (steps_of cells k) k _ first rest in
-      subst (λ (l : List ℕ). ReadsOn base action xs (behind_cells tables (x ∷ cells)) more v (count + length (x ∷ cells)) turns k (each_record (turns_of (x ∷ cells) turns) action (at l c arrays v (steps_of (x ∷ cells) k)))) (sym text)
-      (subst (λ (n : ℕ). ReadsOn base action xs (behind_cells tables (x ∷ cells)) more v n turns k (each_record (turns_of (x ∷ cells) turns) action (at (name_of_sum x.sum ++ (10 ∷ (x.key ++ (10 ∷ (signed_decimal x.number ++ (10 ∷ between)))))) c arrays v (steps_of (x ∷ cells) k)))) number whole)
+      let whole = reads_then (with_cell tables x) (behind_cells tables (x ∷ cells)) between more arrays v (suc count) (suc count + length cells) (turns_of cells turns) turns (steps_of cells k) k _ first rest in
+      subst (λ (l : List ℕ). ReadsOn base action xs (behind_cells tables (x ∷ cells)) more arrays v (count + length (x ∷ cells)) turns k (each_record (turns_of (x ∷ cells) turns) action (at l c arrays v (steps_of (x ∷ cells) k)))) (sym text)
+      (subst (λ (n : ℕ). ReadsOn base action xs (behind_cells tables (x ∷ cells)) more arrays v n turns k (each_record (turns_of (x ∷ cells) turns) action (at (name_of_sum x.sum ++ (10 ∷ (x.key ++ (10 ∷ (signed_decimal x.number ++ (10 ∷ between)))))) c arrays v (steps_of (x ∷ cells) k)))) number whole)
 
 pub law_of_states : LawOfStates
 law_of_states functions m xs base cells tables added more c arrays v count turns k fits read holds = cells_read functions m xs base cells tables added more c arrays v count turns k fits read holds

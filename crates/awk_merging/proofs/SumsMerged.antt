@@ -14,12 +14,12 @@ use Rattle.awk_merging.proofs.States.{own_cell}
 
 -- what is printed
 
-bytes_append : (es fs : List Effect) → bytes_of (es ++ fs) ≡ bytes_of es ++ bytes_of fs
+pub bytes_append : (es fs : List Effect) → bytes_of (es ++ fs) ≡ bytes_of es ++ bytes_of fs
 bytes_append [] fs = refl
 bytes_append (Printed n bytes ∷ es) fs = ap (λ (l : List ℕ). bytes ++ l) (bytes_append es fs) ∙ sym (append_assoc bytes (bytes_of es) (bytes_of fs))
 bytes_append (Requested what ∷ es) fs = bytes_append es fs
 
-text_append : (cs ds : Cells) → text_of_cells (cs ++ ds) ≡ text_of_cells cs ++ text_of_cells ds
+pub text_append : (cs ds : Cells) → text_of_cells (cs ++ ds) ≡ text_of_cells cs ++ text_of_cells ds
 text_append [] ds = refl
 text_append (x ∷ cs) ds =
     let first = cell_text (name_of_sum x.sum) x.key x.number in
@@ -39,18 +39,18 @@ held_text (x ∷ xs) =
 
 -- what is behind cells
 
-behind_append : (tables : Tables) (cs ds : Cells) → behind_cells tables (cs ++ ds) ≡ behind_cells (behind_cells tables cs) ds
+pub behind_append : (tables : Tables) (cs ds : Cells) → behind_cells tables (cs ++ ds) ≡ behind_cells (behind_cells tables cs) ds
 behind_append tables [] ds = refl
 behind_append tables (x ∷ cs) ds = behind_append (with_cell tables x) cs ds
 
 behind_both : (tables : Tables) (cs ds : Cells) (name : List ℕ) → behind_cells tables (cs ++ ds) name ≡ behind_cells (behind_cells tables cs) ds name
 behind_both tables cs ds name = ap (λ (t : Tables). t name) (behind_append tables cs ds)
 
-own_key_for : (x : Sum) (y : List ℕ × ℤ) (ys : Table ℤ) → IsFor x (y ∷ ys) → key_for x y.0 ≡ y.0
+pub own_key_for : (x : Sum) (y : List ℕ × ℤ) (ys : Table ℤ) → IsFor x (y ∷ ys) → key_for x y.0 ≡ y.0
 own_key_for (ByKey a) y ys is = refl
 own_key_for (Alone x) y ys is = sym is.0
 
-rest_for : (x : Sum) (y : List ℕ × ℤ) (ys : Table ℤ) → IsFor x (y ∷ ys) → IsFor x ys
+pub rest_for : (x : Sum) (y : List ℕ × ℤ) (ys : Table ℤ) → IsFor x (y ∷ ys) → IsFor x ys
 rest_for (ByKey a) y ys is = tt
 rest_for (Alone x) y ys is = is.1
 
@@ -61,11 +61,11 @@ own_table x (y ∷ ys) is tables =
     own_table x ys (rest_for x y ys is) (with_cell tables cell)
     ∙ ap (λ (t : Table ℤ). replayed sums t ys) (own_cell tables cell ∙ ap (λ (key : List ℕ). updated sums (tables (name_of_sum x)) key y.1) (own_key_for x y ys is))
 
-other_table : (x : Sum) (ys : Table ℤ) (name : List ℕ) → bytes_eq (name_of_sum x) name ≡ false → (tables : Tables) → behind_cells tables (cells_of_table x ys) name ≡ tables name
+pub other_table : (x : Sum) (ys : Table ℤ) (name : List ℕ) → bytes_eq (name_of_sum x) name ≡ false → (tables : Tables) → behind_cells tables (cells_of_table x ys) name ≡ tables name
 other_table x [] name apart tables = refl
 other_table x (y ∷ ys) name apart tables = other_table x ys name apart (with_cell tables (record { sum = x; key = y.0; number = y.1 })) ∙ cond-false _ _ _ apart
 
-unnamed_same : (xs : List Sum) (name : List ℕ) → IsUnnamed name xs → (tables others : Tables) → behind_cells tables (cells_of (held_by xs others)) name ≡ tables name
+pub unnamed_same : (xs : List Sum) (name : List ℕ) → IsUnnamed name xs → (tables others : Tables) → behind_cells tables (cells_of (held_by xs others)) name ≡ tables name
 unnamed_same [] name unnamed tables others = refl
 unnamed_same (y ∷ ys) name unnamed tables others =
     let first = cells_of_table y (others (name_of_sum y)) in
@@ -73,7 +73,7 @@ unnamed_same (y ∷ ys) name unnamed tables others =
     ∙ unnamed_same ys name unnamed.1 (behind_cells tables first) others
     ∙ other_table y (others (name_of_sum y)) name (apart_turned name (name_of_sum y) unnamed.0) tables
 
-among_replayed : (xs : List Sum) (x : Sum) → IsAmong x xs → (tables others : Tables) → AreFor xs others → behind_cells tables (cells_of (held_by xs others)) (name_of_sum x) ≡ replayed sums (tables (name_of_sum x)) (others (name_of_sum x))
+pub among_replayed : (xs : List Sum) (x : Sum) → IsAmong x xs → (tables others : Tables) → AreFor xs others → behind_cells tables (cells_of (held_by xs others)) (name_of_sum x) ≡ replayed sums (tables (name_of_sum x)) (others (name_of_sum x))
 among_replayed [] x among tables others are = absurd among
 among_replayed (y ∷ ys) x (inl is) tables others are =
     let first = cells_of_table y (others (name_of_sum y)) in

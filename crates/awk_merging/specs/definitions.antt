@@ -8,6 +8,9 @@ pub mod LawOfSums
 pub mod Mergeable
 pub mod Derived
 pub mod LawOfDerived
+pub mod LawOfRules
+pub mod LawOfEnd
+pub mod LawOfMerging
 pub mod LawOfEach
 pub mod LawOfAll
 pub mod Examples

@@ -5,14 +5,17 @@ ghost use Rattle.awk_value.specs.Arrays.{Array};
 ghost use Rattle.awk_value.specs.declared.value.Value.{Value};
 ghost use Rattle.awk_semantics.specs.definitions.Semantics.{Functions};
 ghost use Rattle.awk_semantics.specs.definitions.State.{State};
-ghost use Rattle.awk_merging.specs.definitions.Examples.{ExamplesOfClass};
+ghost use Rattle.awk_merging.specs.definitions.Examples.{ExamplesOfClass, ExamplesOfMerging};
 ghost use Rattle.awk_merging.specs.definitions.Gathering.{LawOfGathering, LawOfWays};
 ghost use Rattle.awk_merging.specs.definitions.LawOfAdditions.{LawOfAdditions};
 ghost use Rattle.awk_merging.specs.definitions.LawOfAll.{LawOfAll};
 ghost use Rattle.awk_merging.specs.definitions.LawOfCells.{LawOfCells, LawOfNewlines};
 ghost use Rattle.awk_merging.specs.definitions.LawOfDerived.{LawOfDerived};
 ghost use Rattle.awk_merging.specs.definitions.LawOfEach.{LawOfEach};
+ghost use Rattle.awk_merging.specs.definitions.LawOfEnd.{LawOfEnd};
+ghost use Rattle.awk_merging.specs.definitions.LawOfMerging.{LawOfMerging};
 ghost use Rattle.awk_merging.specs.definitions.LawOfReading.{LawOfReading};
+ghost use Rattle.awk_merging.specs.definitions.LawOfRules.{LawOfRules};
 ghost use Rattle.awk_merging.specs.definitions.LawOfStates.{LawOfStates};
 ghost use Rattle.awk_merging.specs.definitions.LawOfSums.{LawOfSums};
 
@@ -73,6 +76,18 @@ pub fn law_of_derived()
     ensures { LawOfDerived }
 {}
 
+/// On a record the rules of a program that sums up do where something was summed up before what they do from no sums, and add
+/// the same there.
+#[tactic(auto, using(crate::proofs::RulesSum::law_of_rules))]
+pub fn law_of_rules()
+    ensures { LawOfRules }
+{}
+
+/// END does the same on two states that hold the same sums, where steps are enough.
+pub fn law_of_end()
+    ensures { LawOfEnd }
+{}
+
 /// On a piece of the input the first of the derived programs does what the program does before its END, and then it
 /// prints the sums.
 #[tactic(auto, using(crate::proofs::FirstRun::law_of_each))]
@@ -86,8 +101,16 @@ pub fn law_of_all()
     ensures { LawOfAll }
 {}
 
+/// Where the first of the derived programs ends with status 0 on each piece of an input, one run of the program over the whole
+/// ends as the second one does over what the first one printed, joined in order, and prints the same; or with fault 3, where a
+/// sum leaves the range.
+pub fn law_of_merging()
+    ensures { LawOfMerging }
+{}
+
 /// A program that sums up is one, and one that reads a sum or its record's number in a rule, prints or sets a sum there, or
-/// reads a record in END, isn't.
+/// reads a record in END, isn't. The programs that are derived of one print, over two pieces, what it prints over both.
 pub fn examples()
-    ensures { ExamplesOfClass }
+    ensures class { ExamplesOfClass }
+    ensures merging { ExamplesOfMerging }
 {}

@@ -5,6 +5,7 @@
 mod laws;
 
 pub use laws::{
-    examples, law_of_additions, law_of_all, law_of_cells, law_of_derived, law_of_each,
-    law_of_gathering, law_of_newlines, law_of_reading, law_of_states, law_of_sums, law_of_ways,
+    examples, law_of_additions, law_of_all, law_of_cells, law_of_derived, law_of_each, law_of_end,
+    law_of_gathering, law_of_merging, law_of_newlines, law_of_reading, law_of_rules, law_of_states,
+    law_of_sums, law_of_ways,
 };

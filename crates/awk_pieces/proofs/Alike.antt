@@ -1,13 +1,15 @@
--- Two runs that treat a record alike: on states that differ in their input, in the steps that are left, and in the
--- variables that aren't known to be the same.
-use Rattle.std.proofs.Common.{◌≡◌, ℕ, ◌+◌, Bool, true, false, List, [], ◌∷◌, ◌++◌, Option, Result, Ok, Err, refl, ap, ◌∙◌, zero, suc, ◌≤◌, le_trans, codes}
+-- Two runs that treat a record alike: on states that differ in their input, in the steps that are left, in the
+-- variables that aren't known to be the same, and in their arrays.
+use Rattle.std.proofs.Common.{◌≡◌, ℕ, ◌+◌, Bool, true, false, List, [], ◌∷◌, ◌++◌, Option, Result, Ok, Err, refl, ap, ◌∙◌, zero, suc, ◌≤◌, le_trans, codes, length}
 use Rattle.std.specs.Prelude.{IfOk}
 use Rattle.awk_value.specs.declared.value.Value.{Value}
 use Rattle.awk_record.specs.definitions.Record.{RecordPair}
+use Rattle.awk_kinds.specs.Names.{has_name}
 use Rattle.awk_streams.specs.Oracle.{Source, Oracle}
 use Rattle.awk_semantics.specs.declared.halt.Halt.{Halt}
 use Rattle.awk_semantics.specs.declared.halt.Halt.TheVariants as halt
 use Rattle.awk_semantics.specs.definitions.State.{OpensMain, RecordOfMain, Ends, Effect, Printed, Requested, State, Out, Run, go_on, ◌>>=◌}
+use Rattle.awk_semantics.specs.definitions.Primitives.{number_in, array_in}
 
 -- the outside of a run, what is left of its main input, and whether there was one
 pub record Outer : Type 0 where
@@ -39,6 +41,17 @@ pub record OwnsSeparators (known : Names) : Type 0 where
   pub rs : known (codes "RS") ≡ true
   pub ofs : known (codes "OFS") ≡ true
   pub ors : known (codes "ORS") ≡ true
+
+-- a name stands for an array in both states or in neither, and both arrays have as many elements
+pub record SameKind (s t : State) (x : List ℕ) : Type 0 where
+  pub named : has_name t.array_names x ≡ has_name s.array_names x
+  pub count : length (array_in t (number_in t.array_names x)) ≡ length (array_in s (number_in s.array_names x))
+
+abbrev pub SameKinds : Names → State → State → Type 0
+SameKinds names s t = (x : List ℕ) → names x ≡ true → SameKind s t x
+
+pub own_kinds : (names : Names) (s : State) → SameKinds names s s
+own_kinds names s x is = record { named = refl; count = refl }
 
 abbrev pub AgreeOn : Names → Values → Values → Type 0
 AgreeOn names v w = (x : List ℕ) → names x ≡ true → w x ≡ v x
@@ -78,7 +91,7 @@ behind effects x = record { result = x.result; state = x.state; effects = effect
 
 -- both give the same result, show the same, and leave states that are alike on the known names; those that are kept
 -- have their values still
-pub record Same {A : Type 0} (sorts : Sorts) (known : Names) (base : State) (o p : Outer) (v w : Values) (k d : ℕ) (x y : Out A) : Type 0 where
+pub record Same {A : Type 0} (sorts : Sorts) (known : Names) (base base' : State) (o p : Outer) (v w : Values) (k d : ℕ) (x y : Out A) : Type 0 where
   pub pair : RecordPair
   pub left : ℕ
   pub here : Values
@@ -88,22 +101,22 @@ pub record Same {A : Type 0} (sorts : Sorts) (known : Names) (base : State) (o p
   pub keeps_there : AgreeOn sorts.kept w there
   pub falls : left ≤ k
   pub is_here : x.state ≡ state_on base o pair here left
-  pub is_there : y ≡ record { result = x.result; state = state_on base p pair there (left + d); effects = x.effects }
+  pub is_there : y ≡ record { result = x.result; state = state_on base' p pair there (left + d); effects = x.effects }
   pub plain : AreShown sorts.shows x.effects
 
-abbrev pub Covers : {A : Type 0} → (sorts : Sorts) (known : Names) → State → (o p : Outer) → (v w : Values) → (k d : ℕ) → Result A Halt → Out A → Out A → Type 0
-Covers sorts known base o p v w k d (Ok a) x y = Same sorts known base o p v w k d x y
-Covers sorts known base o p v w k d (Err (halt.Fault f)) x y = Unit {0}
-Covers sorts known base o p v w k d (Err halt.OutOfSteps) x y = Unit {0}
-Covers sorts known base o p v w k d (Err halt.Next) x y = Same sorts sorts.shared base o p v w k d x y
-Covers sorts known base o p v w k d (Err halt.Exit) x y = ⊥
+abbrev pub Covers : {A : Type 0} → (sorts : Sorts) (known : Names) → (base base' : State) → (o p : Outer) → (v w : Values) → (k d : ℕ) → Result A Halt → Out A → Out A → Type 0
+Covers sorts known base base' o p v w k d (Ok a) x y = Same sorts known base base' o p v w k d x y
+Covers sorts known base base' o p v w k d (Err (halt.Fault f)) x y = Unit {0}
+Covers sorts known base base' o p v w k d (Err halt.OutOfSteps) x y = Unit {0}
+Covers sorts known base base' o p v w k d (Err halt.Next) x y = Same sorts sorts.shared base base' o p v w k d x y
+Covers sorts known base base' o p v w k d (Err halt.Exit) x y = ⊥
 
 -- from states that are alike on the names known before, to such on those known behind
-pub record Alike {A : Type 0} (sorts : Sorts) (before known : Names) (base : State) (m n : Run A) : Type 0 where
-  pub covers : (o p : Outer) (c : RecordPair) (v w : Values) (k d : ℕ) → AgreeOn before v w → Covers sorts known base o p v w k d (m (state_on base o c v k)).result (m (state_on base o c v k)) (n (state_on base p c w (k + d)))
+pub record Alike {A : Type 0} (sorts : Sorts) (before known : Names) (base base' : State) (m n : Run A) : Type 0 where
+  pub covers : (o p : Outer) (c : RecordPair) (v w : Values) (k d : ℕ) → AgreeOn before v w → Covers sorts known base base' o p v w k d (m (state_on base o c v k)).result (m (state_on base o c v k)) (n (state_on base' p c w (k + d)))
 
-pub same_behind : {A : Type 0} (sorts : Sorts) (known : Names) (base : State) (o p : Outer) (v w u z : Values) (k l d : ℕ) (effects : List Effect) (x y : Out A) → AreShown sorts.shows effects → AgreeOn sorts.kept v u → AgreeOn sorts.kept w z → l ≤ k → Same sorts known base o p u z l d x y → Same sorts known base o p v w k d (behind effects x) (behind effects y)
-same_behind sorts known base o p v w u z k l d effects x y plain keeps keeps_there falls c = record {
+pub same_behind : {A : Type 0} (sorts : Sorts) (known : Names) (base base' : State) (o p : Outer) (v w u z : Values) (k l d : ℕ) (effects : List Effect) (x y : Out A) → AreShown sorts.shows effects → AgreeOn sorts.kept v u → AgreeOn sorts.kept w z → l ≤ k → Same sorts known base base' o p u z l d x y → Same sorts known base base' o p v w k d (behind effects x) (behind effects y)
+same_behind sorts known base base' o p v w u z k l d effects x y plain keeps keeps_there falls c = record {
   pair = c.pair;
   left = c.left;
   here = c.here;
@@ -117,33 +130,33 @@ same_behind sorts known base o p v w u z k l d effects x y plain keeps keeps_the
   plain = shown_append sorts.shows effects x.effects plain c.plain;
 }
 
-pub covers_behind : {A : Type 0} (sorts : Sorts) (known : Names) (base : State) (o p : Outer) (v w u z : Values) (k l d : ℕ) (effects : List Effect) (r : Result A Halt) (x y : Out A) → AreShown sorts.shows effects → AgreeOn sorts.kept v u → AgreeOn sorts.kept w z → l ≤ k → Covers sorts known base o p u z l d r x y → Covers sorts known base o p v w k d r (behind effects x) (behind effects y)
-covers_behind sorts known base o p v w u z k l d effects (Ok a) x y plain keeps keeps_there falls c = same_behind sorts known base o p v w u z k l d effects x y plain keeps keeps_there falls c
-covers_behind sorts known base o p v w u z k l d effects (Err (halt.Fault f)) x y plain keeps keeps_there falls c = tt
-covers_behind sorts known base o p v w u z k l d effects (Err halt.OutOfSteps) x y plain keeps keeps_there falls c = tt
-covers_behind sorts known base o p v w u z k l d effects (Err halt.Next) x y plain keeps keeps_there falls c = same_behind sorts sorts.shared base o p v w u z k l d effects x y plain keeps keeps_there falls c
-covers_behind sorts known base o p v w u z k l d effects (Err halt.Exit) x y plain keeps keeps_there falls c = absurd c
+pub covers_behind : {A : Type 0} (sorts : Sorts) (known : Names) (base base' : State) (o p : Outer) (v w u z : Values) (k l d : ℕ) (effects : List Effect) (r : Result A Halt) (x y : Out A) → AreShown sorts.shows effects → AgreeOn sorts.kept v u → AgreeOn sorts.kept w z → l ≤ k → Covers sorts known base base' o p u z l d r x y → Covers sorts known base base' o p v w k d r (behind effects x) (behind effects y)
+covers_behind sorts known base base' o p v w u z k l d effects (Ok a) x y plain keeps keeps_there falls c = same_behind sorts known base base' o p v w u z k l d effects x y plain keeps keeps_there falls c
+covers_behind sorts known base base' o p v w u z k l d effects (Err (halt.Fault f)) x y plain keeps keeps_there falls c = tt
+covers_behind sorts known base base' o p v w u z k l d effects (Err halt.OutOfSteps) x y plain keeps keeps_there falls c = tt
+covers_behind sorts known base base' o p v w u z k l d effects (Err halt.Next) x y plain keeps keeps_there falls c = same_behind sorts sorts.shared base base' o p v w u z k l d effects x y plain keeps keeps_there falls c
+covers_behind sorts known base base' o p v w u z k l d effects (Err halt.Exit) x y plain keeps keeps_there falls c = absurd c
 
 -- the same, and this holds of each result
-pub record AlikeWith {A : Type 0} (P : A → Type 0) (sorts : Sorts) (before known : Names) (base : State) (m n : Run A) : Type 0 where
-  pub alike : Alike sorts before known base m n
+pub record AlikeWith {A : Type 0} (P : A → Type 0) (sorts : Sorts) (before known : Names) (base base' : State) (m n : Run A) : Type 0 where
+  pub alike : Alike sorts before known base base' m n
   pub holds : (s : State) → IfOk (m s).result P
 
 any_result : {A : Type 0} (r : Result A Halt) → IfOk r (λ (a : A). Unit {0})
 any_result (Ok a) = tt
 any_result (Err h) = tt
 
-pub with_any : {A : Type 0} {sorts : Sorts} {before known : Names} {base : State} {m n : Run A} → Alike sorts before known base m n → AlikeWith (λ (a : A). Unit {0}) sorts before known base m n
+pub with_any : {A : Type 0} {sorts : Sorts} {before known : Names} {base base' : State} {m n : Run A} → Alike sorts before known base base' m n → AlikeWith (λ (a : A). Unit {0}) sorts before known base base' m n
 with_any {m = m} x = record { alike = x; holds = λ s. any_result (m s).result }
 
 module _ {A B : Type 0} (P : A → Type 0) where
-  go_covers : (sorts : Sorts) (known after : Names) (base : State) (f g : A → Run B) → ((a : A) → P a → Alike sorts known after base (f a) (g a)) → (o p : Outer) (v w : Values) (k d : ℕ) (r : Result A Halt) (t : State) (effects : List Effect) (y : Out A) → IfOk r P → Covers sorts known base o p v w k d r (record { result = r; state = t; effects = effects }) y → Covers sorts after base o p v w k d (go_on r t effects f).result (go_on r t effects f) (go_on y.result y.state y.effects g)
+  go_covers : (sorts : Sorts) (known after : Names) (base base' : State) (f g : A → Run B) → ((a : A) → P a → Alike sorts known after base base' (f a) (g a)) → (o p : Outer) (v w : Values) (k d : ℕ) (r : Result A Halt) (t : State) (effects : List Effect) (y : Out A) → IfOk r P → Covers sorts known base base' o p v w k d r (record { result = r; state = t; effects = effects }) y → Covers sorts after base base' o p v w k d (go_on r t effects f).result (go_on r t effects f) (go_on y.result y.state y.effects g)
   unfolding go_on
-  go_covers sorts known after base f g h o p v w k d (Ok a) t effects y holds c =
-      rw (c.is_here, c.is_there) (covers_behind sorts after base o p v w c.here c.there k c.left d effects (f a (state_on base o c.pair c.here c.left)).result (f a (state_on base o c.pair c.here c.left)) (g a (state_on base p c.pair c.there (c.left + d))) c.plain c.keeps c.keeps_there c.falls ((h a holds).covers o p c.pair c.here c.there c.left d c.agrees))
-  go_covers sorts known after base f g h o p v w k d (Err (halt.Fault n)) t effects y holds c = tt
-  go_covers sorts known after base f g h o p v w k d (Err halt.OutOfSteps) t effects y holds c = tt
-  go_covers sorts known after base f g h o p v w k d (Err halt.Next) t effects y holds c = rw c.is_there (record {
+  go_covers sorts known after base base' f g h o p v w k d (Ok a) t effects y holds c =
+      rw (c.is_here, c.is_there) (covers_behind sorts after base base' o p v w c.here c.there k c.left d effects (f a (state_on base o c.pair c.here c.left)).result (f a (state_on base o c.pair c.here c.left)) (g a (state_on base' p c.pair c.there (c.left + d))) c.plain c.keeps c.keeps_there c.falls ((h a holds).covers o p c.pair c.here c.there c.left d c.agrees))
+  go_covers sorts known after base base' f g h o p v w k d (Err (halt.Fault n)) t effects y holds c = tt
+  go_covers sorts known after base base' f g h o p v w k d (Err halt.OutOfSteps) t effects y holds c = tt
+  go_covers sorts known after base base' f g h o p v w k d (Err halt.Next) t effects y holds c = rw c.is_there (record {
     pair = c.pair;
     left = c.left;
     here = c.here;
@@ -156,23 +169,23 @@ module _ {A B : Type 0} (P : A → Type 0) where
     is_there = refl;
     plain = c.plain;
   })
-  go_covers sorts known after base f g h o p v w k d (Err halt.Exit) t effects y holds c = absurd c
+  go_covers sorts known after base base' f g h o p v w k d (Err halt.Exit) t effects y holds c = absurd c
 
   go_holds : (Q : B → Type 0) (f : A → Run B) → ((a : A) → P a → (s : State) → IfOk (f a s).result Q) → (r : Result A Halt) (t : State) (effects : List Effect) → IfOk r P → IfOk (go_on r t effects f).result Q
   unfolding go_on
   go_holds Q f h (Ok a) t effects holds = h a holds t
   go_holds Q f h (Err reason) t effects holds = tt
 
-pub then_where : {A B : Type 0} {P : A → Type 0} {sorts : Sorts} {before known after : Names} {base : State} {m n : Run A} (f g : A → Run B) → AlikeWith P sorts before known base m n → ((a : A) → P a → Alike sorts known after base (f a) (g a)) → Alike sorts before after base (m >>= f) (n >>= g)
+pub then_where : {A B : Type 0} {P : A → Type 0} {sorts : Sorts} {before known after : Names} {base base' : State} {m n : Run A} (f g : A → Run B) → AlikeWith P sorts before known base base' m n → ((a : A) → P a → Alike sorts known after base base' (f a) (g a)) → Alike sorts before after base base' (m >>= f) (n >>= g)
 unfolding ◌>>=◌
-then_where {P = P} {sorts = sorts} {before = before} {known = known} {after = after} {base = base} {m = m} {n = n} f g x h = record {
-  covers = λ o p c v w k d agrees. go_covers P sorts known after base f g h o p v w k d (m (state_on base o c v k)).result (m (state_on base o c v k)).state (m (state_on base o c v k)).effects (n (state_on base p c w (k + d))) (x.holds (state_on base o c v k)) (x.alike.covers o p c v w k d agrees);
+then_where {P = P} {sorts = sorts} {before = before} {known = known} {after = after} {base = base} {base' = base'} {m = m} {n = n} f g x h = record {
+  covers = λ o p c v w k d agrees. go_covers P sorts known after base base' f g h o p v w k d (m (state_on base o c v k)).result (m (state_on base o c v k)).state (m (state_on base o c v k)).effects (n (state_on base' p c w (k + d))) (x.holds (state_on base o c v k)) (x.alike.covers o p c v w k d agrees);
 }
 
-pub then_alike : {A B : Type 0} {sorts : Sorts} {before known after : Names} {base : State} {m n : Run A} (f g : A → Run B) → Alike sorts before known base m n → ((a : A) → Alike sorts known after base (f a) (g a)) → Alike sorts before after base (m >>= f) (n >>= g)
+pub then_alike : {A B : Type 0} {sorts : Sorts} {before known after : Names} {base base' : State} {m n : Run A} (f g : A → Run B) → Alike sorts before known base base' m n → ((a : A) → Alike sorts known after base base' (f a) (g a)) → Alike sorts before after base base' (m >>= f) (n >>= g)
 then_alike f g x h = then_where f g (with_any x) (λ a _. h a)
 
-pub then_with : {A B : Type 0} {P : A → Type 0} {Q : B → Type 0} {sorts : Sorts} {before known after : Names} {base : State} {m n : Run A} (f g : A → Run B) → AlikeWith P sorts before known base m n → ((a : A) → P a → AlikeWith Q sorts known after base (f a) (g a)) → AlikeWith Q sorts before after base (m >>= f) (n >>= g)
+pub then_with : {A B : Type 0} {P : A → Type 0} {Q : B → Type 0} {sorts : Sorts} {before known after : Names} {base base' : State} {m n : Run A} (f g : A → Run B) → AlikeWith P sorts before known base base' m n → ((a : A) → P a → AlikeWith Q sorts known after base base' (f a) (g a)) → AlikeWith Q sorts before after base base' (m >>= f) (n >>= g)
 unfolding ◌>>=◌
 then_with {P = P} {Q = Q} {m = m} f g x h = record {
   alike = then_where f g x (λ a p. (h a p).alike);

@@ -11,15 +11,21 @@ use Rattle.awk_semantics.specs.definitions.Operators.{pattern_in}
 use Rattle.awk_semantics.specs.definitions.Places.{Place, AField, read_place}
 use Rattle.awk_semantics.specs.definitions.BuiltIns.{Role, AsValue, AsPattern, AsArray, AsPlace, AsMeasured, Argument, OfValue, OfEre, OfArray, OfPlace, value_of, text_at, roles_of, ere_or, array_or_value, array_named_or, target_of, assign_exchange, exchange, applied_all, count_elements, apply_built_in}
 use Rattle.awk_pieces.specs.definitions.Pieceable.{is_of_record, third_is_of_record, may_be_called}
-use Rattle.awk_pieces.proofs.Alike.{Names, OwnsSeparators, Sorts, AlikeWith, then_alike, then_where, then_with, with_any}
+use Rattle.awk_pieces.proofs.Alike.{Names, OwnsSeparators, Sorts, SameKinds, AlikeWith, then_alike, then_where, then_with, with_any}
 use Rattle.awk_pieces.proofs.ReadsAlike.{Reads, lift_alike, ret_alike, ret_with, text_alike, is_array_alike, array_length_alike, record_length_alike}
 use Rattle.awk_pieces.proofs.PlacesAlike.{IsOfRecord, store_alike, read_place_alike}
 use Rattle.awk_pieces.proofs.ValuesAndFaults.{pattern_faults, applied_all_faults}
 
--- an argument that is in the record, where it is a place
+-- an argument that is in the record, where it is a place, and known, where it is an array
 abbrev pub IsKept : Names → Argument → Type 0
 IsKept known (OfPlace q old) = IsOfRecord known q
+IsKept known (OfArray x) = known x ≡ true
 IsKept known a = Unit {0}
+
+-- the name is known, where there is one
+abbrev pub IsKnown : Names → Option (List ℕ) → Type 0
+IsKnown known None = Unit {0}
+IsKnown known (Some x) = known x ≡ true
 
 abbrev pub AreKept : Names → List Argument → Type 0
 AreKept known [] = Unit {0}
@@ -78,20 +84,20 @@ may_be_taken built_in.System es is = absurd (cc)
 may_be_taken built_in.Close es is = absurd (cc)
 may_be_taken built_in.Fflush es is = absurd (cc)
 
-module _ (sorts : Sorts) (known : Names) (base : State) (owns : OwnsSeparators known) where
+module _ (sorts : Sorts) (known : Names) (base base' : State) (kinds : SameKinds known base base') (owns : OwnsSeparators known) where
   abbrev Does : {A : Type 0} → Run A → Run A → Type 0
-  Does m n = Reads sorts known base m n
+  Does m n = Reads sorts known base base' m n
 
   abbrev DoesWith : {A : Type 0} → (A → Type 0) → Run A → Run A → Type 0
-  DoesWith P m n = AlikeWith P sorts known known base m n
+  DoesWith P m n = AlikeWith P sorts known known base base' m n
 
   -- arguments
 
   pub value_taken : {m n : Run Value} → Does m n → DoesWith (IsKept known) (m >>= λ v. ret (OfValue v)) (n >>= λ v. ret (OfValue v))
-  value_taken h = then_with _ _ (with_any h) (λ v _. ret_with sorts known base (OfValue v) tt)
+  value_taken h = then_with _ _ (with_any h) (λ v _. ret_with sorts known base base' (OfValue v) tt)
 
   pub ere_taken : (e : Expr) {m n : Run Value} → Does m n → DoesWith (IsKept known) (ere_or e m) (ere_or e n)
-  ere_taken (Ere text) h = ret_with sorts known base (OfEre text) tt
+  ere_taken (Ere text) h = ret_with sorts known base base' (OfEre text) tt
   ere_taken (Number n) h = value_taken h
   ere_taken (String bytes) h = value_taken h
   ere_taken (Name x) h = value_taken h
@@ -112,16 +118,16 @@ module _ (sorts : Sorts) (known : Names) (base : State) (owns : OwnsSeparators k
   ere_taken (Conditional c a b) h = value_taken h
   ere_taken (Assign c p a) h = value_taken h
 
-  array_or_value_taken : (b : Bool) (x : List ℕ) {m n : Run Value} → Does m n → DoesWith (IsKept known) (array_or_value b x m) (array_or_value b x n)
-  array_or_value_taken true x h = ret_with sorts known base (OfArray x) tt
-  array_or_value_taken false x h = value_taken h
+  array_or_value_taken : (b : Bool) (x : List ℕ) {m n : Run Value} → known x ≡ true → Does m n → DoesWith (IsKept known) (array_or_value b x m) (array_or_value b x n)
+  array_or_value_taken true x is h = ret_with sorts known base base' (OfArray x) is
+  array_or_value_taken false x is h = value_taken h
 
-  pub measured : (name : Option (List ℕ)) {m n : Run Value} → Does m n → DoesWith (IsKept known) (array_named_or name m) (array_named_or name n)
-  measured None h = value_taken h
-  measured (Some x) h = then_with _ _ (with_any (is_array_alike sorts known base x)) (λ b _. array_or_value_taken b x h)
+  pub measured : (name : Option (List ℕ)) {m n : Run Value} → IsKnown known name → Does m n → DoesWith (IsKept known) (array_named_or name m) (array_named_or name n)
+  measured None is h = value_taken h
+  measured (Some x) is h = then_with _ _ (with_any (is_array_alike sorts known base base' x (kinds x is))) (λ b _. array_or_value_taken b x is h)
 
   pub place_taken : {m n : Run Place} → DoesWith (IsOfRecord known) m n → DoesWith (IsKept known) (m >>= λ q. read_place q >>= λ v. ret (OfPlace q v)) (n >>= λ q. read_place q >>= λ v. ret (OfPlace q v))
-  place_taken h = then_with _ _ h (λ q is. then_with _ _ (with_any (read_place_alike sorts known base owns q is)) (λ v _. ret_with sorts known base (OfPlace q v) is))
+  place_taken h = then_with _ _ h (λ q is. then_with _ _ (with_any (read_place_alike sorts known base base' owns q is)) (λ v _. ret_with sorts known base base' (OfPlace q v) is))
 
   -- exchanges in the record
 
@@ -129,44 +135,44 @@ module _ (sorts : Sorts) (known : Names) (base : State) (owns : OwnsSeparators k
   InRecord target = IsOfRecord known target.0
 
   record_target : DoesWith InRecord (target_of None) (target_of None)
-  record_target = then_with _ _ (with_any (text_alike sorts known base)) (λ v _. ret_with sorts known base (AField (pos 0), v) tt)
+  record_target = then_with _ _ (with_any (text_alike sorts known base base')) (λ v _. ret_with sorts known base base' (AField (pos 0), v) tt)
 
   target_alike : (a : Option Argument) → IsTarget known a → DoesWith InRecord (target_of a) (target_of a)
   target_alike None is = record_target
   target_alike (Some (OfValue v)) is = record_target
   target_alike (Some (OfEre text)) is = record_target
   target_alike (Some (OfArray x)) is = record_target
-  target_alike (Some (OfPlace q old)) is = ret_with sorts known base (q, old) is
+  target_alike (Some (OfPlace q old)) is = ret_with sorts known base base' (q, old) is
 
   assign_exchange_alike : (q : Place) (n : ℕ) (text : List ℕ) → IsOfRecord known q → Does (assign_exchange q n text) (assign_exchange q n text)
-  assign_exchange_alike q zero text is = ret_alike sorts known base _
-  assign_exchange_alike q (suc n) text is = then_alike _ _ (store_alike sorts known base owns q (value.Text text) is) (λ _. ret_alike sorts known base _)
+  assign_exchange_alike q zero text is = ret_alike sorts known base base' _
+  assign_exchange_alike q (suc n) text is = then_alike _ _ (store_alike sorts known base base' owns q (value.Text text) is) (λ _. ret_alike sorts known base base' _)
 
   exchange_alike : (all : Bool) (xs : List Argument) → AreKept known xs → Does (exchange all xs) (exchange all xs)
   unfolding exchange
   exchange_alike all xs are = then_where _ _ (target_alike (slice_get xs 2) (kept_at known xs 2 are)) (λ target is.
-      then_alike _ _ (lift_alike sorts known base (pattern_in (text_at xs 0)) (pattern_faults (pattern_of (text_at xs 0)))) (λ t. assign_exchange_alike target.0 _ _ is))
+      then_alike _ _ (lift_alike sorts known base base' (pattern_in (text_at xs 0)) (pattern_faults (pattern_of (text_at xs 0)))) (λ t. assign_exchange_alike target.0 _ _ is))
 
   -- what a built-in function makes of its arguments
 
-  elements_alike : (x : List ℕ) → Does (count_elements x) (count_elements x)
+  elements_alike : (x : List ℕ) → known x ≡ true → Does (count_elements x) (count_elements x)
   unfolding count_elements
-  elements_alike x = then_alike _ _ (array_length_alike sorts known base x) (λ n. ret_alike sorts known base _)
+  elements_alike x is = then_alike _ _ (array_length_alike sorts known base base' x (kinds x is)) (λ n. ret_alike sorts known base base' _)
 
   applied_alike : (f : BuiltInName) (xs : List Argument) → Does (lift (applied_all f (map value_of xs))) (lift (applied_all f (map value_of xs)))
-  applied_alike f xs = lift_alike sorts known base (applied_all f (map value_of xs)) (applied_all_faults f (map value_of xs))
+  applied_alike f xs = lift_alike sorts known base base' (applied_all f (map value_of xs)) (applied_all_faults f (map value_of xs))
 
-  length_alike : (xs : List Argument) → Does (apply_built_in built_in.Length xs) (apply_built_in built_in.Length xs)
+  length_alike : (xs : List Argument) → AreKept known xs → Does (apply_built_in built_in.Length xs) (apply_built_in built_in.Length xs)
   unfolding apply_built_in
-  length_alike [] = record_length_alike sorts known base
-  length_alike (OfArray x ∷ xs) = elements_alike x
-  length_alike (OfValue v ∷ xs) = applied_alike built_in.Length (OfValue v ∷ xs)
-  length_alike (OfEre text ∷ xs) = applied_alike built_in.Length (OfEre text ∷ xs)
-  length_alike (OfPlace q old ∷ xs) = applied_alike built_in.Length (OfPlace q old ∷ xs)
+  length_alike [] are = record_length_alike sorts known base base'
+  length_alike (OfArray x ∷ xs) are = elements_alike x are.0
+  length_alike (OfValue v ∷ xs) are = applied_alike built_in.Length (OfValue v ∷ xs)
+  length_alike (OfEre text ∷ xs) are = applied_alike built_in.Length (OfEre text ∷ xs)
+  length_alike (OfPlace q old ∷ xs) are = applied_alike built_in.Length (OfPlace q old ∷ xs)
 
   pub built_in_alike : (f : BuiltInName) (es : Exprs) (xs : List Argument) → may_be_called f es ≡ true → AreKept known xs → Does (apply_built_in f xs) (apply_built_in f xs)
   unfolding apply_built_in
-  built_in_alike built_in.Length es xs is are = length_alike xs
+  built_in_alike built_in.Length es xs is are = length_alike xs are
   built_in_alike built_in.Substr es xs is are = applied_alike built_in.Substr xs
   built_in_alike built_in.Index es xs is are = applied_alike built_in.Index xs
   built_in_alike built_in.Sprintf es xs is are = applied_alike built_in.Sprintf xs

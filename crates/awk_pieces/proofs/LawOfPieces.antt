@@ -21,12 +21,12 @@ use Rattle.awk_semantics.specs.definitions.Semantics.{Functions, choose}
 use Rattle.awk_semantics.specs.definitions.Calls.{functions_within}
 use Rattle.awk_semantics.specs.definitions.Items.{try_items, until_next, unless_exit, until_exit, each_record, run_records, has_rule, begin_items, end_item, end_items, run_before_end, run_items}
 use Rattle.awk_semantics.specs.definitions.Meaning.{StartValues, start_state, assign_all, assign_and_run, with_end, run_program, outcome_of, outputs_from, outputs_after, meaning_of}
-use Rattle.awk_pieces.specs.definitions.Pieceable.{tells_apart, knows, is_rule_for_itself, are_rules_for_themselves, IsPieceable}
+use Rattle.awk_pieces.specs.definitions.Pieceable.{tells_apart, leaves_records, knows, is_rule_for_itself, are_rules_for_themselves, IsPieceable}
 use Rattle.awk_pieces.specs.definitions.LawOfPieces.{EndsLine, Gives, StartsPlainly, Prints, LawOfPieces}
 use Rattle.awk_pieces.proofs.Alike.{Outer, Sorts, Values, state_on, AgreeOn, ArePlain, plain_append, behind, Covers, Alike}
 use Rattle.awk_pieces.proofs.ReadsAlike.{left_true, right_true}
 use Rattle.awk_pieces.proofs.RulesAlike.{items_alike, until_alike}
-use Rattle.awk_pieces.proofs.BeginsAlike.{all_names, first_sorts, assign_all_alike, begin_items_alike}
+use Rattle.awk_pieces.proofs.BeginsAlike.{all_names, first_sorts, leaves_pre, own_names, assign_all_alike, begin_items_alike}
 use Rattle.awk_pieces.proofs.LinesJoined.{newline}
 use Rattle.awk_pieces.proofs.RecordsFound.{reading, over, Counts, record_over}
 use Rattle.awk_pieces.proofs.FirstRecord.{unread, with_opening, opened, OpensLines, first_opens}
@@ -74,12 +74,12 @@ record Settled (base : State) (o p : Outer) (v : Values) (k d : ℕ) (x y : Out 
   here : Values
   there : Values
   agrees : AgreeOn all_names here there
-  keeps : AgreeOn first_sorts.kept v here
+  keeps : AgreeOn (first_sorts leaves_records).kept v here
   falls : left ≤ k
   is_here : x ≡ gives (tt {0}) (state_on base o pair here left)
   is_there : y ≡ gives (tt {0}) (state_on base p pair there (left + d))
 
-settled : (base : State) (o p : Outer) (v w : Values) (k d : ℕ) (r : Result (Unit {0}) Halt) (t : State) (effects : List Effect) (y : Out (Unit {0})) → Covers first_sorts all_names base o p v w k d r (record { result = r; state = t; effects = effects }) y → EndsWell r → Settled base o p v k d (record { result = r; state = t; effects = effects }) y
+settled : (base : State) (o p : Outer) (v w : Values) (k d : ℕ) (r : Result (Unit {0}) Halt) (t : State) (effects : List Effect) (y : Out (Unit {0})) → Covers (first_sorts leaves_records) all_names base base o p v w k d r (record { result = r; state = t; effects = effects }) y → EndsWell r → Settled base o p v k d (record { result = r; state = t; effects = effects }) y
 settled base o p v w k d (Ok u) t effects y c well = record {
   pair = c.pair;
   left = c.left;
@@ -149,7 +149,7 @@ module _ (items : List Item) (pieceable : IsPieceable items) (start : StartValue
   abbrev finish : ℕ → Out (Unit {0}) → Out (Unit {0})
   finish limit z = go_on (unless_exit z.result) (outside_calls z.state) z.effects (λ _. end_items (functions limit) items)
 
-  rules_alike : (f g : ℕ) → Alike rule_sorts rule_sorts.shared rule_sorts.shared (with_opening base) (action f) (action g)
+  rules_alike : (f g : ℕ) → Alike rule_sorts rule_sorts.shared rule_sorts.shared (with_opening base) (with_opening base) (action f) (action g)
   rules_alike f g = until_alike rule_sorts knows (λ x e. e) (record { fs = refl; rs = refl; ofs = refl; ors = refl }) refl (with_opening base) (functions f) (functions g) (items_alike rule_sorts knows (λ x e. e) (record { fs = refl; rs = refl; ofs = refl; ors = refl }) refl (with_opening base) (functions f) (functions g) 0 items pieceable)
 
   -- a run before its records
@@ -163,7 +163,7 @@ module _ (items : List Item) (pieceable : IsPieceable items) (start : StartValue
     assigned : assign_all start.pre (state_on base (unread x) first_pair first_values steps) ≡ gives (tt {0}) (state_on base (unread x) set_pair set_values set_steps)
     begun : begin_items (functions limit) items (state_on base (unread x) set_pair set_values set_steps) ≡ gives (tt {0}) (state_on base (unread x) pair values left)
     falls : left ≤ steps
-    keeps : AgreeOn first_sorts.kept first_values values
+    keeps : AgreeOn (first_sorts leaves_records).kept first_values values
 
   whole_is : (x : Oracle) (limit steps : ℕ) (p : Prepared x limit steps) → whole x limit steps ≡ finish limit (records limit (state_on base (unread x) p.pair p.values p.left))
   unfolding assign_and_run run_items run_before_end until_exit ◌>>=◌ go_on
@@ -207,8 +207,8 @@ module _ (items : List Item) (pieceable : IsPieceable items) (start : StartValue
 
   prepare : (x y : Oracle) (limit limit' steps d : ℕ) → EndsWell (whole x limit steps).result → BothPrepared x y limit limit' steps d
   prepare x y limit limit' steps d well =
-      let first = settled base (unread x) (unread y) first_values first_values steps d _ _ _ _ ((assign_all_alike base start.pre plainly.assignments).covers (unread x) (unread y) first_pair first_values first_values steps d (λ z e. refl)) (whole_assigned x limit steps well) in
-      let begun = settled base (unread x) (unread y) first.here first.there first.left d _ _ _ _ ((begin_items_alike base (functions limit) (functions limit') knows items pieceable).covers (unread x) (unread y) first.pair first.here first.there first.left d first.agrees) (begins_well limit _ (items_well x limit steps first.pair first.here first.left first.is_here well)) in
+      let first = settled base (unread x) (unread y) first_values first_values steps d _ _ _ _ ((assign_all_alike leaves_records (λ x is. is) base base (own_names base) start.pre (leaves_pre start.pre plainly.assignments)).covers (unread x) (unread y) first_pair first_values first_values steps d (λ z e. refl)) (whole_assigned x limit steps well) in
+      let begun = settled base (unread x) (unread y) first.here first.there first.left d _ _ _ _ ((begin_items_alike base base (own_names base) (functions limit) (functions limit') knows items pieceable).covers (unread x) (unread y) first.pair first.here first.there first.left d first.agrees) (begins_well limit _ (items_well x limit steps first.pair first.here first.left first.is_here well)) in
       begun_prepared x y limit limit' steps d first begun
 
   -- behind the records nothing is done
@@ -257,14 +257,14 @@ module _ (items : List Item) (pieceable : IsPieceable items) (start : StartValue
   argc_is : first_values (codes "ARGC") ≡ value.Number (pos 1)
   argc_is = ap (λ (l : List (List ℕ)). value.Number (pos (suc (length l)))) plainly.operands
 
-  opens_lines : (values : Values) → AgreeOn first_sorts.kept first_values values → OpensLines base values
+  opens_lines : (values : Values) → AgreeOn (first_sorts leaves_records).kept first_values values → OpensLines base values
   opens_lines values keeps = record {
     rs = ap str_of (keeps (codes "RS") refl);
     argc = keeps (codes "ARGC") refl ∙ argc_is;
     first = refl;
   }
 
-  counts_none : (values : Values) → AgreeOn first_sorts.kept first_values values → Counts (opened values) 0
+  counts_none : (values : Values) → AgreeOn (first_sorts leaves_records).kept first_values values → Counts (opened values) 0
   counts_none values keeps = record {
     rs = ap str_of (keeps (codes "RS") refl);
     argc = keeps (codes "ARGC") refl ∙ argc_is;
@@ -279,7 +279,7 @@ module _ (items : List Item) (pieceable : IsPieceable items) (start : StartValue
   abbrev lines : Oracle → ℕ → List ℕ → RecordPair → Values → ℕ → ℕ → Out (Unit {0})
   lines x limit text pair values turns left = each_record turns (action limit) (state_on (with_opening base) (reading x text) pair values left)
 
-  records_are : has_rule items ≡ true → (x : Oracle) (limit : ℕ) (text : List ℕ) → Gives x text → (pair : RecordPair) (values : Values) (left : ℕ) → AgreeOn first_sorts.kept first_values values →
+  records_are : has_rule items ≡ true → (x : Oracle) (limit : ℕ) (text : List ℕ) → Gives x text → (pair : RecordPair) (values : Values) (left : ℕ) → AgreeOn (first_sorts leaves_records).kept first_values values →
       records limit (state_on base (unread x) pair values left) ≡ behind (Requested (OpensMain input.Standard []) ∷ []) (lines x limit text pair (opened values) (suc left) left)
   unfolding run_records
   records_are has x limit text given pair values left keeps = rw has (first_opens base x text given pair values (opens_lines values keeps) left left (action limit))

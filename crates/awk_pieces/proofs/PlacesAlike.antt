@@ -24,11 +24,11 @@ IsOfRecord known (AField n) = Unit {0}
 IsOfRecord known (AName x) = (bytes_eq x (codes "NF") ≡ true) × (known x ≡ true)
 IsOfRecord known (AnElement x key) = ⊥
 
-module _ (sorts : Sorts) (known : Names) (base : State) (owns : OwnsSeparators known) where
+module _ (sorts : Sorts) (known : Names) (base base' : State) (owns : OwnsSeparators known) where
   abbrev Stores : {A : Type 0} → Run A → Run A → Type 0
-  Stores m n = Reads sorts known base m n
+  Stores m n = Reads sorts known base base' m n
 
-  current_covers : (r : Result RecordPair Halt) → IsValueOrFault r → (o p : Outer) (c : RecordPair) (v w : Values) (k d : ℕ) → AgreeOn known v w → Covers sorts known base o p v w k d (set_current r (state_on base o c v k)).result (set_current r (state_on base o c v k)) (set_current r (state_on base p c w (k + d)))
+  current_covers : (r : Result RecordPair Halt) → IsValueOrFault r → (o p : Outer) (c : RecordPair) (v w : Values) (k d : ℕ) → AgreeOn known v w → Covers sorts known base base' o p v w k d (set_current r (state_on base o c v k)).result (set_current r (state_on base o c v k)) (set_current r (state_on base' p c w (k + d)))
   current_covers (Ok pair) is o p c v w k d agrees = record { pair = pair; left = k; here = v; there = w; agrees = agrees; keeps = λ x e. refl; keeps_there = λ x e. refl; falls = le_refl _; is_here = refl; is_there = refl; plain = shown_none sorts.shows }
   current_covers (Err (halt.Fault f)) is o p c v w k d agrees = tt
   current_covers (Err halt.OutOfSteps) is o p c v w k d agrees = absurd is
@@ -51,7 +51,7 @@ module _ (sorts : Sorts) (known : Names) (base : State) (owns : OwnsSeparators k
 
   put_count_outside : (x : List ℕ) (a : Value) → bytes_eq x (codes "NF") ≡ true → Stores (put_outside x a) (put_outside x a)
   unfolding put_outside
-  put_count_outside x a is = record { covers = λ o p c v w k d agrees. rw is ((then_alike _ _ (number_alike sorts known base a) (λ n. count_alike n)).covers o p c v w k d agrees) }
+  put_count_outside x a is = record { covers = λ o p c v w k d agrees. rw is ((then_alike _ _ (number_alike sorts known base base' a) (λ n. count_alike n)).covers o p c v w k d agrees) }
 
   put_count_alike : (x : List ℕ) (a : Value) → bytes_eq x (codes "NF") ≡ true → Stores (put x a) (put x a)
   unfolding put
@@ -65,8 +65,8 @@ module _ (sorts : Sorts) (known : Names) (base : State) (owns : OwnsSeparators k
 
   pub read_place_alike : (q : Place) → IsOfRecord known q → Stores (read_place q) (read_place q)
   unfolding read_place
-  read_place_alike (AField n) is = field_alike sorts known base n
-  read_place_alike (AName x) is = name_alike sorts known base x is.1
+  read_place_alike (AField n) is = field_alike sorts known base base' n
+  read_place_alike (AName x) is = name_alike sorts known base base' x is.1
   read_place_alike (AnElement x key) is = absurd is
 
   assign_alike : (q : Place) (a : Value) → IsOfRecord known q → Stores (assign q a) (assign q a)
@@ -76,9 +76,9 @@ module _ (sorts : Sorts) (known : Names) (base : State) (owns : OwnsSeparators k
   pub assign_by_alike : (c : Option Operator) (q : Place) (a : Value) → IsOfRecord known q → Stores (assign_by c q a) (assign_by c q a)
   unfolding assign_by
   assign_by_alike None q a is = assign_alike q a is
-  assign_by_alike (Some c) q a is = then_alike _ _ (read_place_alike q is) (λ old. then_alike _ _ (lift_alike sorts known base (applied c old a) (applied_faults c old a)) (λ b. assign_alike q b is))
+  assign_by_alike (Some c) q a is = then_alike _ _ (read_place_alike q is) (λ old. then_alike _ _ (lift_alike sorts known base base' (applied c old a) (applied_faults c old a)) (λ b. assign_alike q b is))
 
   pub post_increment_alike : (c : IncrementOperator) (q : Place) → IsOfRecord known q → Stores (post_increment c q) (post_increment c q)
   unfolding post_increment
-  post_increment_alike c q is = then_alike _ _ (read_place_alike q is) (λ old. then_alike _ _ (number_alike sorts known base old) (λ n.
-      then_alike _ _ (lift_alike sorts known base (applied (by_one c) (value.Number n) one) (applied_faults (by_one c) (value.Number n) one)) (λ a. then_alike _ _ (store_alike q a is) (λ _. ret_alike sorts known base _))))
+  post_increment_alike c q is = then_alike _ _ (read_place_alike q is) (λ old. then_alike _ _ (number_alike sorts known base base' old) (λ n.
+      then_alike _ _ (lift_alike sorts known base base' (applied (by_one c) (value.Number n) one) (applied_faults (by_one c) (value.Number n) one)) (λ a. then_alike _ _ (store_alike q a is) (λ _. ret_alike sorts known base base' _))))

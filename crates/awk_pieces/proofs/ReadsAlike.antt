@@ -18,7 +18,7 @@ use Rattle.awk_semantics.specs.definitions.Faults.{of_values, of_record}
 use Rattle.awk_semantics.specs.definitions.Primitives.{spend, spend_of, number_of, read_field, record_text, read_name, is_array, number_in, array_in, array_length, array_length_at}
 use Rattle.awk_semantics.specs.definitions.BuiltIns.{applied_all, record_length}
 use Rattle.awk_semantics.specs.definitions.Semantics.{right_operand, tested, choose, combined}
-use Rattle.awk_pieces.proofs.Alike.{Outer, Names, Sorts, Values, state_on, AgreeOn, AreShown, shown_none, Same, Covers, Alike, AlikeWith, then_alike}
+use Rattle.awk_pieces.proofs.Alike.{Outer, Names, Sorts, Values, state_on, SameKind, AgreeOn, AreShown, shown_none, Same, Covers, Alike, AlikeWith, then_alike}
 use Rattle.awk_pieces.proofs.ValuesAndFaults.{IsValueOrFault, of_values_faults, of_record_faults, applied_faults, applied_all_faults}
 
 pub left_true : (a b : Bool) → (a && b) ≡ true → a ≡ true
@@ -29,12 +29,12 @@ pub right_true : (a b : Bool) → (a && b) ≡ true → b ≡ true
 right_true true b e = e
 right_true false b e = absurd (cc)
 
-module _ (sorts : Sorts) (known : Names) (base : State) where
+module _ (sorts : Sorts) (known : Names) (base base' : State) where
   -- what reads names that are known, and leaves them alike
   abbrev pub Reads : {A : Type 0} → Run A → Run A → Type 0
-  Reads m n = Alike sorts known known base m n
+  Reads m n = Alike sorts known known base base' m n
 
-  pub unmoved : {A : Type 0} (o p : Outer) (c : RecordPair) (v w : Values) (k d : ℕ) (effects : List Effect) (r : Result A Halt) → IsValueOrFault r → AreShown sorts.shows effects → AgreeOn known v w → Covers sorts known base o p v w k d r (record { result = r; state = state_on base o c v k; effects = effects }) (record { result = r; state = state_on base p c w (k + d); effects = effects })
+  pub unmoved : {A : Type 0} (o p : Outer) (c : RecordPair) (v w : Values) (k d : ℕ) (effects : List Effect) (r : Result A Halt) → IsValueOrFault r → AreShown sorts.shows effects → AgreeOn known v w → Covers sorts known base base' o p v w k d r (record { result = r; state = state_on base o c v k; effects = effects }) (record { result = r; state = state_on base' p c w (k + d); effects = effects })
   unmoved o p c v w k d effects (Ok a) is plain agrees = record { pair = c; left = k; here = v; there = w; agrees = agrees; keeps = λ x e. refl; keeps_there = λ x e. refl; falls = le_refl _; is_here = refl; is_there = refl; plain = plain }
   unmoved o p c v w k d effects (Err (halt.Fault f)) is plain agrees = tt
   unmoved o p c v w k d effects (Err halt.OutOfSteps) is plain agrees = absurd is
@@ -48,14 +48,14 @@ module _ (sorts : Sorts) (known : Names) (base : State) where
   pub ret_alike : {A : Type 0} (a : A) → Reads (ret a) (ret a)
   ret_alike a = lift_alike (Ok a) tt
 
-  pub ret_with : {A : Type 0} {P : A → Type 0} (a : A) → P a → AlikeWith P sorts known known base (ret a) (ret a)
+  pub ret_with : {A : Type 0} {P : A → Type 0} (a : A) → P a → AlikeWith P sorts known known base base' (ret a) (ret a)
   unfolding lift
   ret_with a p = record { alike = ret_alike a; holds = λ s. p }
 
-  fewer : (o p : Outer) (c : RecordPair) (v w : Values) (k d : ℕ) → AgreeOn known v w → Same {A = Unit {0}} sorts known base o p v w (suc k) d (gives (tt {0}) (state_on base o c v k)) (gives (tt {0}) (state_on base p c w (k + d)))
+  fewer : (o p : Outer) (c : RecordPair) (v w : Values) (k d : ℕ) → AgreeOn known v w → Same {A = Unit {0}} sorts known base base' o p v w (suc k) d (gives (tt {0}) (state_on base o c v k)) (gives (tt {0}) (state_on base' p c w (k + d)))
   fewer o p c v w k d agrees = record { pair = c; left = k; here = v; there = w; agrees = agrees; keeps = λ x e. refl; keeps_there = λ x e. refl; falls = omega arith; is_here = refl; is_there = refl; plain = shown_none sorts.shows }
 
-  spend_covers : (o p : Outer) (c : RecordPair) (v w : Values) (k d : ℕ) → AgreeOn known v w → Covers sorts known base o p v w k d (spend_of k (state_on base o c v k)).result (spend_of k (state_on base o c v k)) (spend_of (k + d) (state_on base p c w (k + d)))
+  spend_covers : (o p : Outer) (c : RecordPair) (v w : Values) (k d : ℕ) → AgreeOn known v w → Covers sorts known base base' o p v w k d (spend_of k (state_on base o c v k)).result (spend_of k (state_on base o c v k)) (spend_of (k + d) (state_on base' p c w (k + d)))
   spend_covers o p c v w zero d agrees = tt
   spend_covers o p c v w (suc k) d agrees = let e : suc k + d ≡ suc (k + d) = omega arith in rw e (fewer o p c v w k d agrees)
 
@@ -78,13 +78,13 @@ module _ (sorts : Sorts) (known : Names) (base : State) where
   pub number_alike : (v : Value) → Reads (number_of v) (number_of v)
   number_alike v = lift_alike (of_values (num_of v)) (of_values_faults (num_of v))
 
-  pub is_array_alike : (x : List ℕ) → Reads (is_array x) (is_array x)
+  pub is_array_alike : (x : List ℕ) → SameKind base base' x → Reads (is_array x) (is_array x)
   unfolding is_array
-  is_array_alike x = record { covers = λ o p c v w k d agrees. unmoved o p c v w k d [] (Ok (has_name base.array_names x)) tt (shown_none sorts.shows) agrees }
+  is_array_alike x kind = record { covers = λ o p c v w k d agrees. rw kind.named (unmoved o p c v w k d [] (Ok (has_name base.array_names x)) tt (shown_none sorts.shows) agrees) }
 
-  pub array_length_alike : (x : List ℕ) → Reads (array_length x) (array_length x)
+  pub array_length_alike : (x : List ℕ) → SameKind base base' x → Reads (array_length x) (array_length x)
   unfolding array_length array_length_at
-  array_length_alike x = record { covers = λ o p c v w k d agrees. unmoved o p c v w k d [] (Ok (length (array_in base (number_in base.array_names x)))) tt (shown_none sorts.shows) agrees }
+  array_length_alike x kind = record { covers = λ o p c v w k d agrees. rw kind.count (unmoved o p c v w k d [] (Ok (length (array_in base (number_in base.array_names x)))) tt (shown_none sorts.shows) agrees) }
 
   pub right_alike : (takes : Bool) (e : Expr) {m n : Run Value} → Reads m n → Reads (right_operand takes e m) (right_operand takes e n)
   right_alike true (Ere text) h = ret_alike _
@@ -113,7 +113,7 @@ module _ (sorts : Sorts) (known : Names) (base : State) where
   unfolding tested
   tested_alike h = then_alike _ _ h (λ v. ret_alike (truth_of v))
 
-  pub choose_alike : {A : Type 0} {before after : Names} (b : Bool) {here here' other other' : Run A} → Alike sorts before after base here here' → Alike sorts before after base other other' → Alike sorts before after base (choose b here other) (choose b here' other')
+  pub choose_alike : {A : Type 0} {before after : Names} (b : Bool) {here here' other other' : Run A} → Alike sorts before after base base' here here' → Alike sorts before after base base' other other' → Alike sorts before after base base' (choose b here other) (choose b here' other')
   choose_alike true h k = h
   choose_alike false h k = k
 

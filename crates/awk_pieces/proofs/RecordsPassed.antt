@@ -43,7 +43,7 @@ pub record Owns (sorts : Sorts) : Type 0 where
   pub no_nr : (x : List ℕ) → sorts.shared x ≡ true → bytes_eq (codes "NR") x ≡ false
   pub no_fnr : (x : List ℕ) → sorts.shared x ≡ true → bytes_eq (codes "FNR") x ≡ false
 
-module _ (sorts : Sorts) (owns : Owns sorts) (base : State) (x y : Oracle) (action action' : Run (Unit {0})) (alike : Alike sorts sorts.shared sorts.shared base action action') where
+module _ (sorts : Sorts) (owns : Owns sorts) (base : State) (x y : Oracle) (action action' : Run (Unit {0})) (alike : Alike sorts sorts.shared sorts.shared base base action action') where
   -- what a run over a text has done, and what is left of a run over more
   pub record Passed (more : List ℕ) (w : Values) (e d : ℕ) (here there : Out (Unit {0})) : Type 0 where
     pub pair : RecordPair
@@ -115,7 +115,7 @@ module _ (sorts : Sorts) (owns : Owns sorts) (base : State) (x y : Oracle) (acti
   -- the record's action, and then the others
   acted_on : (n e : ℕ) (left more : List ℕ) (v w : Values) (k d i j : ℕ) (t : State) (effects : List Effect) (there : Out (Unit {0})) → PassesFrom n → Counts v i → Counts w j → Joins left more →
       suc i + length left < 2 ^ 127 → suc j + (length left + length more) < 2 ^ 127 →
-      Same sorts sorts.shared base (reading x left) (reading y (left ++ more)) (counted v (suc i)) (counted w (suc j)) k d (record { result = Ok (tt {0}); state = t; effects = effects }) there →
+      Same sorts sorts.shared base base (reading x left) (reading y (left ++ more)) (counted v (suc i)) (counted w (suc j)) k d (record { result = Ok (tt {0}); state = t; effects = effects }) there →
       EndsWell (go_on (Ok (tt {0})) t effects (λ _. each_record n action)).result →
       Passed more w e d (go_on (Ok (tt {0})) t effects (λ _. each_record n action)) (go_on there.result there.state there.effects (λ _. each_record (n + e) action'))
   unfolding go_on
@@ -126,7 +126,7 @@ module _ (sorts : Sorts) (owns : Owns sorts) (base : State) (x y : Oracle) (acti
 
   acted : (n e : ℕ) (left more : List ℕ) (v w : Values) (k d i j : ℕ) (r : Result (Unit {0}) Halt) (t : State) (effects : List Effect) (there : Out (Unit {0})) → PassesFrom n → Counts v i → Counts w j → Joins left more →
       suc i + length left < 2 ^ 127 → suc j + (length left + length more) < 2 ^ 127 →
-      Covers sorts sorts.shared base (reading x left) (reading y (left ++ more)) (counted v (suc i)) (counted w (suc j)) k d r (record { result = r; state = t; effects = effects }) there →
+      Covers sorts sorts.shared base base (reading x left) (reading y (left ++ more)) (counted v (suc i)) (counted w (suc j)) k d r (record { result = r; state = t; effects = effects }) there →
       EndsWell (go_on r t effects (λ _. each_record n action)).result →
       Passed more w e d (go_on r t effects (λ _. each_record n action)) (go_on there.result there.state there.effects (λ _. each_record (n + e) action'))
   unfolding go_on

@@ -1,11 +1,16 @@
--- Which programs sum up, by examples: the definition of the class, tried.
-use Rattle.std.specs.Prelude.{◌≡◌, ℕ, pos, false, List, [], ◌∷◌, codes}
+-- Which programs sum up, by examples: the definition of the class, tried; and what the derived programs print.
+use Rattle.std.specs.Prelude.{◌≡◌, ℕ, pos, false, List, [], ◌∷◌, ◌++◌, Some, codes}
 use Rattle.awk_lex.specs.declared.token.AssignmentOperator.TheVariants as assignment
 use Rattle.awk_lex.specs.declared.token.IncrementOperator.TheVariants as increment
 use Rattle.awk_lex.specs.declared.token.Operator.TheVariants as operator
 use Rattle.awk_grammar.specs.declared.tree.BinaryOperator.TheVariants.{Infix}
 use Rattle.awk_grammar.specs.declared.tree.PrintForm.TheVariants as form
 use Rattle.awk_grammar.specs.Tree.{Expr, Number, Name, Element, Field, PostIncrement, Binary, Assign, Nil, Cons, Bare, Standard, Expression, Print, Statement, Simple, If, ForIn, Statements, NoMore, Then, Single, Item, End, Action, PatternAction}
+use Rattle.awk_record.specs.definitions.Cut.{AtEnd}
+use Rattle.awk_streams.specs.Oracle.{Oracle}
+use Rattle.awk_semantics.specs.definitions.Meaning.{StartValues, meaning_of}
+use Rattle.awk_pieces.specs.definitions.LawOfPieces.{Prints}
+use Rattle.awk_merging.specs.definitions.Derived.{each_of, all_of}
 use Rattle.awk_merging.specs.definitions.Sums.{ByKey, Alone}
 use Rattle.awk_merging.specs.definitions.Mergeable.{sums_of_program, are_mergeable, IsMergeable}
 
@@ -66,3 +71,30 @@ pub record ExamplesOfClass : Type 0 where
   pub not_prints : are_mergeable (sums_of_program prints) prints ≡ false
   pub not_record : are_mergeable (sums_of_program ends_with_record) ends_with_record ≡ false
   pub not_sets : are_mergeable (sums_of_program sets) sets ≡ false
+
+-- The two programs that are derived of one, run over two pieces, and the program over both.
+
+abbrev pub plain : StartValues
+plain = record { pre = []; operands = []; environ = [] }
+
+-- standard input gives this, and nothing else is there
+abbrev pub input_of : List ℕ → Oracle
+input_of text = record { input = λ kind name count. Some (record { bytes = text; ending = AtEnd }); output = λ kind name count. false; closing = λ count. pos 0; running = λ count. pos 0 }
+
+abbrev pub first_text : List ℕ
+first_text = codes "a 5\nb 1\n"
+
+abbrev pub second_text : List ℕ
+second_text = codes "b 9\na 4\n"
+
+abbrev pub first_state : List ℕ
+first_state = codes "n\na\n1\ns\n\n5\n"
+
+abbrev pub second_state : List ℕ
+second_state = codes "n\nb\n1\nn\na\n1\ns\n\n13\n"
+
+pub record ExamplesOfMerging : Type 0 where
+  pub first : Prints (meaning_of (each_of counts) plain (input_of first_text) 100) first_state
+  pub second : Prints (meaning_of (each_of counts) plain (input_of second_text) 100) second_state
+  pub all : Prints (meaning_of (all_of counts) plain (input_of (first_state ++ second_state)) 100) (codes "2\n1\n18\n")
+  pub whole : Prints (meaning_of counts plain (input_of (first_text ++ second_text)) 100) (codes "2\n1\n18\n")

@@ -11,6 +11,7 @@ use Rattle.awk_lex.specs.declared.token.Operator.TheVariants as operator
 use Rattle.awk_semantics.specs.declared.halt.Halt.TheVariants as halt
 use Rattle.awk_semantics.specs.definitions.State.{State, Out, gives, ends}
 use Rattle.awk_semantics.specs.definitions.Operators.{applied}
+use Rattle.awk_semantics.specs.definitions.Primitives.{number_in, array_in}
 use Rattle.awk_semantics.specs.definitions.Semantics.{Functions}
 use Rattle.awk_semantics.specs.definitions.Items.{try_items}
 use Rattle.awk_merging.specs.definitions.Gathering.{Table, updated, sums}
@@ -53,6 +54,16 @@ pub record IsAdded (c : RecordPair) (v : List ℕ → Value) (x : Sum) (table : 
   pub fits : is_in_range n ≡ true
   pub sum_fits : is_in_range (number_at table (key_for x key) +ℤ n) ≡ true
 
+-- the sum is in no array of this name
+abbrev pub IsElsewhere : Sum → List ℕ → Type 0
+IsElsewhere (ByKey a) z = bytes_eq a z ≡ false
+IsElsewhere (Alone x) z = Unit {0}
+
+-- the sum is in no variable of this name
+abbrev pub IsAside : Sum → List ℕ → Type 0
+IsAside (ByKey a) z = Unit {0}
+IsAside (Alone x) z = bytes_eq x z ≡ false
+
 -- the number is added to the sum at the key, a step is spent, and nothing else has changed: other variables and sums are as
 -- they were
 pub record Adds (base : State) (c : RecordPair) (arrays : List Array) (v : List ℕ → Value) (k : ℕ) (x : Sum) (table : Table ℤ) (key : List ℕ) (n : ℤ) (out : Out (Unit {0})) : Type 0 where
@@ -60,8 +71,9 @@ pub record Adds (base : State) (c : RecordPair) (arrays : List Array) (v : List 
   pub values : List ℕ → Value
   pub is : out ≡ gives tt (state_on base c arrays_then values k)
   pub adds : Holds (state_on base c arrays_then values k) x (updated sums table (key_for x key) n)
-  pub keeps : (z : List ℕ) → bytes_eq (name_of_sum x) z ≡ false → values z ≡ v z
+  pub keeps : (z : List ℕ) → IsAside x z → values z ≡ v z
   pub others : (y : Sum) (other : Table ℤ) → bytes_eq (name_of_sum x) (name_of_sum y) ≡ false → Holds (state_on base c arrays v k) y other → Holds (state_on base c arrays_then values k) y other
+  pub elsewhere : (z : List ℕ) → IsElsewhere x z → array_in (state_on base c arrays_then values k) (number_in base.array_names z) ≡ array_in (state_on base c arrays v k) (number_in base.array_names z)
 
 -- on the first two lines of a cell the rules keep the line and go on with the next one; on the third they add the number
 pub record LawOfReading : Type 0 where

@@ -1,5 +1,5 @@
 -- What the rules that read sums come to on the cells of a text, one after the other.
-use Rattle.std.specs.Prelude.{◌≡◌, ◌<◌, ◌+◌, ◌*◌, ◌^◌, ℕ, Bool, ℤ, ◌+ℤ◌, pos, suc, true, false, List, [], ◌∷◌, ◌++◌, length, codes, bytes_eq, if◌then◌else◌, Some}
+use Rattle.std.specs.Prelude.{◌≡◌, ◌<◌, ◌+◌, ◌*◌, ◌^◌, ℕ, Bool, ℤ, ◌+ℤ◌, pos, suc, true, false, List, [], ◌∷◌, ◌++◌, length, codes, bytes_eq, if◌then◌else◌, Some, slice_get, unwrap_or}
 use Rattle.awk_value.specs.declared.value.Value.{Value}
 use Rattle.awk_value.specs.declared.value.Value.TheVariants as value
 use Rattle.awk_value.specs.Arithmetic.{is_in_range}
@@ -8,13 +8,15 @@ use Rattle.awk_value.specs.Values.{str_of}
 use Rattle.awk_record.specs.definitions.Cut.{AtEnd, longest}
 use Rattle.awk_record.specs.Record.{RecordPair}
 use Rattle.awk_kinds.specs.Names.{has_name}
-use Rattle.awk_semantics.specs.definitions.State.{Effect, Printed, Requested, State, Out, Run}
+use Rattle.awk_semantics.specs.definitions.State.{OpensMain, RecordOfMain, Effect, Requested, State, Out, Run}
 use Rattle.awk_semantics.specs.definitions.Semantics.{Functions}
 use Rattle.awk_semantics.specs.definitions.Items.{try_items, until_next, each_record}
+use Rattle.awk_semantics.specs.definitions.Primitives.{number_in}
 use Rattle.awk_merging.specs.definitions.Gathering.{Table, updated, sums}
 use Rattle.awk_merging.specs.definitions.Sums.{Sum, name_of_sum, merge_what, merge_key, reading_rules, is_taken, Holds, cell_text}
 use Rattle.awk_merging.specs.definitions.LawOfCells.{IsLine}
-use Rattle.awk_merging.specs.definitions.LawOfReading.{IsUnnamed, IsAmong, key_for, number_at}
+use Rattle.awk_merging.specs.definitions.Mergeable.{is_array_sum, is_variable_sum}
+use Rattle.awk_merging.specs.definitions.LawOfReading.{IsAmong, key_for, number_at}
 
 -- a cell: a sum, a key and a number
 pub record Cell : Type 0 where
@@ -83,26 +85,28 @@ pub record HasRead (v : List ℕ → Value) (cells : ℕ) : Type 0 where
   pub nr : v (codes "NR") ≡ value.Number (pos (3 * cells))
   pub fnr : v (codes "FNR") ≡ value.Number (pos (3 * cells))
 
--- requests alone: nothing is printed
-abbrev pub AreRequests : List Effect → Type 0
-AreRequests [] = Unit {0}
-AreRequests (Printed n bytes ∷ effects) = ⊥
-AreRequests (Requested what ∷ effects) = AreRequests effects
+-- readings of the main input alone: nothing is printed, and no output opened
+abbrev pub AreReadings : List Effect → Type 0
+AreReadings [] = Unit {0}
+AreReadings (Requested (OpensMain kind name) ∷ effects) = AreReadings effects
+AreReadings (Requested (RecordOfMain separator left) ∷ effects) = AreReadings effects
+AreReadings (x ∷ effects) = ⊥
 
 -- the variables that change with each cell
 abbrev pub is_counted : List ℕ → Bool
 is_counted z = has_name (merge_what ∷ merge_key ∷ codes "NR" ∷ codes "FNR" ∷ []) z
 
--- what a run does is this, and then what is left of it, where the sums are these, and other variables as they were
-pub record ReadsOn (base : State) (action : Run (Unit {0})) (xs : List Sum) (tables : Tables) (more : List ℕ) (v : List ℕ → Value) (count turns k : ℕ) (out : Out (Unit {0})) : Type 0 where
+-- what a run does is this, and then what is left of it, where the sums are these, and other variables and arrays as they were
+pub record ReadsOn (base : State) (action : Run (Unit {0})) (xs : List Sum) (tables : Tables) (more : List ℕ) (old : List Array) (v : List ℕ → Value) (count turns k : ℕ) (out : Out (Unit {0})) : Type 0 where
   pub current : RecordPair
   pub arrays : List Array
   pub values : List ℕ → Value
   pub effects : List Effect
-  pub requests : AreRequests effects
+  pub readings : AreReadings effects
   pub read : HasRead values count
   pub holds : HoldsAll (state_reading base more current arrays values k) xs tables
-  pub keeps : (z : List ℕ) → IsUnnamed z xs → is_counted z ≡ false → values z ≡ v z
+  pub keeps : (z : List ℕ) → is_variable_sum xs z ≡ false → is_counted z ≡ false → values z ≡ v z
+  pub elsewhere : (z : List ℕ) → is_array_sum xs z ≡ false → unwrap_or (slice_get arrays (number_in base.array_names z)) [] ≡ unwrap_or (slice_get old (number_in base.array_names z)) []
   pub is : out ≡ record {
     result = (each_record turns action (state_reading base more current arrays values k)).result;
     state = (each_record turns action (state_reading base more current arrays values k)).state;
@@ -122,5 +126,5 @@ steps_of (x ∷ xs) k = suc (suc (suc (suc (suc (suc (suc (suc (steps_of xs k)))
 abbrev pub LawOfStates : Type 0
 LawOfStates = (functions : Functions) (m : ℕ) (xs : List Sum) (base : State) (cells : Cells) (tables : Tables) → AreAdded xs tables cells → (more : List ℕ) (c : RecordPair) (arrays : List Array) (v : List ℕ → Value) (count turns k : ℕ) →
     3 * (count + length cells) < 2 ^ 127 → HasRead v count → HoldsAll (state_reading base (text_of_cells cells ++ more) c arrays v (steps_of cells k)) xs tables →
-    ReadsOn base (until_next (try_items functions m (reading_rules xs))) xs (behind_cells tables cells) more v (count + length cells) turns k
+    ReadsOn base (until_next (try_items functions m (reading_rules xs))) xs (behind_cells tables cells) more arrays v (count + length cells) turns k
     (each_record (turns_of cells turns) (until_next (try_items functions m (reading_rules xs))) (state_reading base (text_of_cells cells ++ more) c arrays v (steps_of cells k)))

@@ -84,6 +84,11 @@ is_array_sum [] x = false
 is_array_sum (ByKey a ∷ ys) x = bytes_eq a x || is_array_sum ys x
 is_array_sum (Alone y ∷ ys) x = is_array_sum ys x
 
+abbrev pub is_variable_sum : List Sum → List ℕ → Bool
+is_variable_sum [] x = false
+is_variable_sum (Alone y ∷ ys) x = bytes_eq y x || is_variable_sum ys x
+is_variable_sum (ByKey a ∷ ys) x = is_variable_sum ys x
+
 -- a variable of the derived programs
 abbrev pub is_derived : List ℕ → Bool
 is_derived x = bytes_eq x merge_what || bytes_eq x merge_key
@@ -115,8 +120,8 @@ module _ (sums : List Sum) where
 
   -- an addition to a sum of what the record gives
   abbrev pub is_sum_place : (place : Expr) → Bool
-  is_sum_place (Element a es) = not (is_taken a) && all_keep_to_record knows es
-  is_sum_place (Name x) = not (is_taken x)
+  is_sum_place (Element a es) = is_array_sum sums a && all_keep_to_record knows es
+  is_sum_place (Name x) = is_variable_sum sums x
   is_sum_place e = false
 
   abbrev pub is_addition : Expr → Bool
