@@ -4,6 +4,7 @@
 mod appends;
 mod beginning;
 pub mod calls;
+mod comparisons;
 mod effects;
 pub mod entry;
 mod evaluate;
@@ -14,10 +15,10 @@ mod moves;
 pub mod operands;
 mod operations;
 mod prints;
-mod quick;
 mod quick_values;
 mod stream_values;
 mod text_values;
+mod updates;
 mod values;
 mod walks;
 
