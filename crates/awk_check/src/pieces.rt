@@ -2,46 +2,19 @@
 
 ghost use Rattle.std.specs.Prelude.{◌≡◌, ◌≤◌, ◌↔◌, true, List, [], map, IfOk};
 ghost use Rattle.awk_grammar.specs.Tree.{Item};
-ghost use Rattle.awk_grammar.specs.View.{tree_of};
 ghost use Rattle.awk_pieces.specs.definitions.Pieceable.{IsPieceable};
 ghost use Rattle.awk_pieces.specs.definitions.LawOfPieces.{all_leave_records};
 ghost use Rattle.awk_run.specs.Accepted.{Accepted};
 ghost use Rattle.awk_run.specs.Start.{pair_of};
 
-use crate::refused::refused_finding;
-use awk_findings::{Finding, pieces_finding, plain_pieces_finding};
-use awk_grammar::tree::Tree;
-use awk_kinds::law_of_refusals;
+use crate::pieces_reasons::pieces_finding;
+use crate::reading::{all_leave_records, listed, read_tree, reason_of_words, refusal_of};
+use awk_findings::Finding;
 use awk_lex::lexer::tokens;
-use awk_lex::refusal::{Refusal, RefusalCode};
-use awk_pieces::{is_pieceable, leaves_records};
-use awk_resolve::resolve;
-use awk_run::{Assignment, read_program};
-use awk_syntax::parse;
+use awk_lex::refusal::Refusal;
+use awk_pieces::is_pieceable;
+use awk_run::Assignment;
 use std::alloc::{AllocError, Global};
-
-/// The tree of a text.
-fn read_tree(alloc: Global, text: &[u8]) -> Result<Tree, Refusal>
-    ensures { IfOk result (λ tree. Accepted text.now (tree_of tree)) }
-{
-    law_of_refusals();
-    let tokens = tokens(alloc, text)?;
-    let tree = parse(alloc, &tokens)?;
-    let _plan = resolve(alloc, &tree)?;
-    Ok(tree)
-}
-
-/// Whether each of the assignments leaves the records and their count as they are.
-fn all_leave_records(assigned: &[Assignment]) -> bool
-    ensures { result ≡ all_leave_records (map pair_of assigned.now) }
-{
-    for assignment in assigned {
-        if !leaves_records(&assignment.name) {
-            return false;
-        }
-    }
-    true
-}
 
 /// Whether a program, with these assignments before it and without operands, may run on pieces of its
 /// input side by side, cut behind any newline: what it prints on the pieces, one behind the other, is
@@ -60,7 +33,7 @@ pub fn may_run_on_pieces(
         ((may ≡ true) ↔ (IsPieceable items × (all_leave_records (map pair_of assigned.now) ≡ true)))) }
 {
     let tree = read_tree(alloc, text)?;
-    Ok(is_pieceable(&tree) && all_leave_records(assigned))
+    Ok(is_pieceable(alloc, &tree)? && all_leave_records(assigned))
 }
 
 /// What is answered where it is asked whether a program may run on pieces of its input.
@@ -70,20 +43,6 @@ pub struct PiecesReport {
     pub status: u8,
     /// Why it isn't yes: of a program that is refused the cause at its place, else the first reason that is found.
     pub findings: Vec<Finding>,
-}
-
-/// The reason that the words beside a program are, where its text has none.
-fn reason_of_words(assigned: &[Assignment], operands: &[Vec<u8>], limit: u64) -> &'static [u8] {
-    if !operands.is_empty() {
-        return b"operands name other inputs than the pieces";
-    }
-    if !all_leave_records(assigned) {
-        return b"an assignment before the run changes how records are found or counted";
-    }
-    if limit < u64::MAX {
-        return b"the limit of -L counts the steps of one run";
-    }
-    b"it does more than treat each record for itself"
 }
 
 /// The first reason that is found why a program, with these words beside it, isn't known to run on pieces.
@@ -97,17 +56,9 @@ fn reason(
     let Ok(tokens) = tokens(alloc, text) else {
         return Err(AllocError);
     };
-    match pieces_finding(alloc, text, &tokens)? {
-        Some(finding) => Ok(finding),
-        None => plain_pieces_finding(alloc, reason_of_words(assigned, operands, limit)),
-    }
-}
-
-/// A finding alone.
-fn listed(alloc: Global, finding: Finding) -> Result<Vec<Finding>, AllocError> {
-    let mut findings = Vec::new(alloc);
-    findings.push(finding)?;
-    Ok(findings)
+    let other = b"it does more than treat each record for itself".as_slice();
+    let plain = reason_of_words(assigned, operands, limit).unwrap_or(other);
+    pieces_finding(alloc, text, &tokens, plain)
 }
 
 /// Whether a program may run on pieces of its input, with the words that stand beside it: the
@@ -132,14 +83,11 @@ pub fn check_pieces(
     ensures refused { IfOk result (λ report. report.status ≡ 2 → (items : List Item) → Accepted text.now items → ⊥) }
     ensures known { IfOk result (λ report. report.status ≤ 2) }
 {
-    if let Err(refusal) = read_program(alloc, text) {
-        return match refusal.code {
-            RefusalCode::OutOfMemory => Err(AllocError),
-            _ => Ok(PiecesReport {
-                status: 2,
-                findings: listed(alloc, refused_finding(alloc, text, refusal)?)?,
-            }),
-        };
+    if let Some(finding) = refusal_of(alloc, text)? {
+        return Ok(PiecesReport {
+            status: 2,
+            findings: listed(alloc, finding)?,
+        });
     }
     let Ok(may) = may_run_on_pieces(alloc, text, assigned) else {
         return Err(AllocError);

@@ -22,7 +22,7 @@ use Rattle.awk_semantics.specs.definitions.Operators.{join, one}
 use Rattle.awk_semantics.specs.definitions.Primitives.{joined_key}
 use Rattle.awk_semantics.specs.definitions.Places.{Place, AName, AnElement, assign_by}
 use Rattle.awk_semantics.specs.definitions.Semantics.{Functions, eval, place_of, key_of}
-use Rattle.awk_pieces.specs.definitions.Pieceable.{tells_apart, keeps_to_record, all_keep_to_record}
+use Rattle.awk_pieces.specs.definitions.Pieceable.{no_own, tells_apart, keeps_to_record, all_keep_to_record}
 use Rattle.awk_pieces.proofs.Alike.{Outer, OwnsSeparators, Values}
 use Rattle.awk_pieces.proofs.ReadsAlike.{left_true, right_true, unmoved}
 use Rattle.awk_pieces.proofs.ExpressionsAlike.{expression_alike}
@@ -35,7 +35,7 @@ use Rattle.awk_merging.specs.definitions.LawOfRules.{ahead, IsSound, IsAhead}
 use Rattle.awk_merging.proofs.ProgramSums.{AreApart, AreProper, is_among, is_proper}
 use Rattle.awk_merging.proofs.States.{holds_one, all_hold}
 use Rattle.awk_merging.proofs.Sound.{ahead_cell, sound_cell, one_array, one_variable, not_named, not_sum, not_array, is_aside, not_variable}
-use Rattle.awk_merging.proofs.Summing.{known_no_sum, apart, ret_first, reading_sorts, at, at', Covers, Told, Alike, then_alike, reads_alike}
+use Rattle.awk_merging.proofs.Summing.{known_no_sum, apart, ret_first, reading_sorts, reading_apart, at, at', Covers, Told, Alike, then_alike, reads_alike}
 use Rattle.awk_merging.proofs.Adders.{Added, Adder, plus_by_key, post_by_key, plus_alone_to, post_alone}
 
 -- an expression statement drops the value
@@ -157,8 +157,8 @@ module _ (xs : List Sum) (proper : AreProper xs) (distinct : AreApart xs) where
     adder_alike x key w m adder one = record { told = λ c arrays arrays' v u k d are. by_number x key w m adder one c arrays arrays' v u k d are (num_of w) refl }
 
     module _ (f g : Functions) where
-      pub reads : (e : Expr) → keeps_to_record (knows xs) e ≡ true → Does (eval f e) (eval g e)
-      reads e is = reads_alike xs before base base' o p (λ arrays arrays' kinds. expression_alike (reading_sorts xs) (knows xs) (record base { arrays = arrays }) (record base' { arrays = arrays' }) kinds owns f g e is)
+      pub reads : (e : Expr) → keeps_to_record no_own (knows xs) e ≡ true → Does (eval f e) (eval g e)
+      reads e is = reads_alike xs before base base' o p (λ arrays arrays' kinds. expression_alike (reading_sorts xs) (reading_apart xs) (knows xs) (record base { arrays = arrays }) (record base' { arrays = arrays' }) kinds owns f g e is)
 
       joined : (vs : List Value) → Does (joined_key vs) (joined_key vs)
       unfolding joined_key
@@ -167,10 +167,10 @@ module _ (xs : List Sum) (proper : AreProper xs) (distinct : AreApart xs) where
             rw (agrees (codes "SUBSEP") (known_special (codes "SUBSEP") refl refl refl)) (unmoved (reading_sorts xs) (knows xs) (record base { arrays = arrays }) (record base' { arrays = arrays' }) q r c v w k d [] (Ok (join (str_of (v (codes "SUBSEP"))) (map str_of vs))) tt refl agrees);
       })
 
-      keys : (front : List Value) (es : Exprs) → all_keep_to_record (knows xs) es ≡ true → Does (key_of f front es) (key_of g front es)
+      keys : (front : List Value) (es : Exprs) → all_keep_to_record no_own (knows xs) es ≡ true → Does (key_of f front es) (key_of g front es)
       unfolding key_of
       keys front Nil is = joined front
-      keys front (Cons e es) is = then_alike xs before base base' o p _ _ (reads e (left_true (keeps_to_record (knows xs) e) _ is)) (λ v. keys (front ++ v ∷ []) es (right_true (keeps_to_record (knows xs) e) _ is))
+      keys front (Cons e es) is = then_alike xs before base base' o p _ _ (reads e (left_true (keeps_to_record no_own (knows xs) e) _ is)) (λ v. keys (front ++ v ∷ []) es (right_true (keeps_to_record no_own (knows xs) e) _ is))
 
       element_first : (h : Functions) (a : List ℕ) (es : Exprs) (to : Place → Run Value) → drop (place_of h (Element a es) >>= to) ≡ (key_of h [] es >>= λ key. drop (to (AnElement a key)))
       unfolding place_of
@@ -214,7 +214,7 @@ module _ (xs : List Sum) (proper : AreProper xs) (distinct : AreApart xs) where
       abbrev own_name : (x : List ℕ) → IsOneOf (Alone x) xs → is_taken x ≡ false
       own_name x one = is_proper (Alone x) xs proper one
 
-      pub assigned : (place e : Expr) → is_sum_place xs place ≡ true → keeps_to_record (knows xs) e ≡ true → Does (drop (eval f (Assign assignment.Add place e))) (drop (eval g (Assign assignment.Add place e)))
+      pub assigned : (place e : Expr) → is_sum_place xs place ≡ true → keeps_to_record no_own (knows xs) e ≡ true → Does (drop (eval f (Assign assignment.Add place e))) (drop (eval g (Assign assignment.Add place e)))
       unfolding eval
       assigned place e is kept =
           let valued = λ (q : Place) (h : (w : Value) → Does (drop (assign_by (Some operator.Plus) q w)) (drop (assign_by (Some operator.Plus) q w))).

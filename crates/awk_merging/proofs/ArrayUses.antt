@@ -9,7 +9,7 @@ use Rattle.awk_kinds.specs.declared.uses.ArrayUse.{ArrayUse}
 use Rattle.awk_kinds.specs.declared.uses.ArrayUse.TheVariants.{Used, Passed}
 use Rattle.awk_kinds.specs.definitions.Kinds.{Scope, split_into, uses_in_expr, uses_in_list, uses_in_print_list, uses_in_output, uses_in_simple, uses_in_statement, uses_in_block, uses_in_pattern, outside_functions, uses_in_item, uses_in}
 use Rattle.awk_grammar.specs.Tree.{Expr, Number, String, Ere, Name, Element, Field, Group, Call, BuiltIn, Length, PreIncrement, PostIncrement, Getline, PipedGetline, Unary, Binary, Membership, ListMembership, Conditional, Assign, Exprs, Nil, Cons, PrintList, Bare, Parenthesized, Output, Standard, Redirected, SimpleStatement, Expression, Print, Delete, DeleteAll, Next, NextFile, Break, Continue, Exit, Return, Statement, Empty, Simple, Block, If, IfElse, While, Do, ForIn, For, Statements, NoMore, Then, Pattern, Single, Range, Item, Begin, End, Action, PatternAction, PatternOnly, Function}
-use Rattle.awk_pieces.specs.definitions.Pieceable.{may_be_called, keeps_to_record, all_keep_to_record, is_of_record, is_plain, may_be_set, is_setting, is_simple_setting, only_sets, all_only_set, pattern_keeps_to_record}
+use Rattle.awk_pieces.specs.definitions.Pieceable.{no_own, may_be_called, keeps_to_record, all_keep_to_record, is_of_record, is_plain, may_be_set, is_setting, is_simple_setting, only_sets, all_only_set, pattern_keeps_to_record}
 use Rattle.awk_pieces.proofs.ReadsAlike.{left_true, right_true}
 use Rattle.awk_merging.specs.definitions.Sums.{Sum, is_taken}
 use Rattle.awk_merging.specs.definitions.Mergeable.{is_plus, is_plus_one, is_array_sum, knows, is_of_values, is_standard, is_sum, is_sum_place, is_addition, is_simple_summing, only_sums, all_only_sum, reads_sums, all_read_sums, are_printed, is_printed, is_simple_print, only_prints, all_only_print, is_mergeable_item, are_mergeable}
@@ -42,7 +42,7 @@ summed_append xs [] vs a b = b
 summed_append xs (Used v ∷ us) vs a b = (a.0, summed_append xs us vs a.1 b)
 summed_append xs (Passed v f n ∷ us) vs a b = absurd a
 
-no_split : (f : BuiltInName) (es : Exprs) → may_be_called f es ≡ true → split_into plain f es ≡ []
+no_split : (f : BuiltInName) (es : Exprs) → may_be_called no_own f es ≡ true → split_into plain f es ≡ []
 no_split builtin.Length es may = refl
 no_split builtin.Substr es may = refl
 no_split builtin.Index es may = refl
@@ -86,7 +86,7 @@ module _ (xs : List Sum) where
 
   module _ (known : List ℕ → Bool) where
     mutual
-      kept : (e : Expr) → keeps_to_record known e ≡ true → Fine (uses_in_expr plain e)
+      kept : (e : Expr) → keeps_to_record no_own known e ≡ true → Fine (uses_in_expr plain e)
       kept (Number n) is = tt
       kept (String bytes) is = tt
       kept (Ere text) is = tt
@@ -95,17 +95,17 @@ module _ (xs : List Sum) where
       kept (Field e) is = kept e is
       kept (Group e) is = kept e is
       kept (Unary o e) is = kept e is
-      kept (Binary o a b) is = both (uses_in_expr plain a) (uses_in_expr plain b) (kept a (left_true (keeps_to_record known a) _ is)) (kept b (right_true (keeps_to_record known a) _ is))
+      kept (Binary o a b) is = both (uses_in_expr plain a) (uses_in_expr plain b) (kept a (left_true (keeps_to_record no_own known a) _ is)) (kept b (right_true (keeps_to_record no_own known a) _ is))
       kept (Conditional c a b) is =
-          let rest = right_true (keeps_to_record known c) _ is in
-          both (uses_in_expr plain c) (uses_in_expr plain a ++ uses_in_expr plain b) (kept c (left_true (keeps_to_record known c) _ is))
-          (both (uses_in_expr plain a) (uses_in_expr plain b) (kept a (left_true (keeps_to_record known a) _ rest)) (kept b (right_true (keeps_to_record known a) _ rest)))
-      kept (BuiltIn f es) is = split_and (split_into plain f es) (uses_in_list plain es) (no_split f es (left_true (may_be_called f es) _ is)) (all_kept es (right_true (may_be_called f es) _ is))
-      kept (PreIncrement o p) is = kept p (right_true (is_of_record p) _ is)
-      kept (PostIncrement o p) is = kept p (right_true (is_of_record p) _ is)
+          let rest = right_true (keeps_to_record no_own known c) _ is in
+          both (uses_in_expr plain c) (uses_in_expr plain a ++ uses_in_expr plain b) (kept c (left_true (keeps_to_record no_own known c) _ is))
+          (both (uses_in_expr plain a) (uses_in_expr plain b) (kept a (left_true (keeps_to_record no_own known a) _ rest)) (kept b (right_true (keeps_to_record no_own known a) _ rest)))
+      kept (BuiltIn f es) is = split_and (split_into plain f es) (uses_in_list plain es) (no_split f es (left_true (may_be_called no_own f es) _ is)) (all_kept es (right_true (may_be_called no_own f es) _ is))
+      kept (PreIncrement o p) is = kept p (right_true (is_of_record no_own p) _ is)
+      kept (PostIncrement o p) is = kept p (right_true (is_of_record no_own p) _ is)
       kept (Assign o p e) is =
-          let rest = right_true (is_of_record p) _ is in
-          both (uses_in_expr plain p) (uses_in_expr plain e) (kept p (left_true (keeps_to_record known p) _ rest)) (kept e (right_true (keeps_to_record known p) _ rest))
+          let rest = right_true (is_of_record no_own p) _ is in
+          both (uses_in_expr plain p) (uses_in_expr plain e) (kept p (left_true (keeps_to_record no_own known p) _ rest)) (kept e (right_true (keeps_to_record no_own known p) _ rest))
       kept (Element x es) is = absurd (cc)
       kept (Call c es) is = absurd (cc)
       kept (Getline p file) is = absurd (cc)
@@ -113,9 +113,9 @@ module _ (xs : List Sum) where
       kept (Membership a x) is = absurd (cc)
       kept (ListMembership es x) is = absurd (cc)
 
-      all_kept : (es : Exprs) → all_keep_to_record known es ≡ true → Fine (uses_in_list plain es)
+      all_kept : (es : Exprs) → all_keep_to_record no_own known es ≡ true → Fine (uses_in_list plain es)
       all_kept Nil is = tt
-      all_kept (Cons e es) is = both (uses_in_expr plain e) (uses_in_list plain es) (kept e (left_true (keeps_to_record known e) _ is)) (all_kept es (right_true (keeps_to_record known e) _ is))
+      all_kept (Cons e es) is = both (uses_in_expr plain e) (uses_in_list plain es) (kept e (left_true (keeps_to_record no_own known e) _ is)) (all_kept es (right_true (keeps_to_record no_own known e) _ is))
 
   -- rules
 
@@ -166,7 +166,7 @@ module _ (xs : List Sum) where
   added (ListMembership es x) is = absurd (cc)
 
   simple_sums : (simple : SimpleStatement) → is_simple_summing xs simple ≡ true → Fine (uses_in_simple plain simple)
-  simple_sums (Expression e) is = elim (or_cases (is_addition xs e) (keeps_to_record (knows xs) e) is) [ inl adds ↦ added e adds | inr keeps ↦ kept (knows xs) e keeps ]
+  simple_sums (Expression e) is = elim (or_cases (is_addition xs e) (keeps_to_record no_own (knows xs) e) is) [ inl adds ↦ added e adds | inr keeps ↦ kept (knows xs) e keeps ]
   simple_sums Next is = tt
   simple_sums (Print form list output) is = absurd (cc)
   simple_sums (Delete x es) is = absurd (cc)
@@ -182,10 +182,10 @@ module _ (xs : List Sum) where
     rule Empty is = tt
     rule (Simple simple) is = simple_sums simple is
     rule (Block all) is = rules all is
-    rule (If c s) is = both (uses_in_expr plain c) (uses_in_statement plain s) (kept (knows xs) c (left_true (keeps_to_record (knows xs) c) _ is)) (rule s (right_true (keeps_to_record (knows xs) c) _ is))
+    rule (If c s) is = both (uses_in_expr plain c) (uses_in_statement plain s) (kept (knows xs) c (left_true (keeps_to_record no_own (knows xs) c) _ is)) (rule s (right_true (keeps_to_record no_own (knows xs) c) _ is))
     rule (IfElse c s other) is =
-        let rest = right_true (keeps_to_record (knows xs) c) _ is in
-        both (uses_in_expr plain c) (uses_in_statement plain s ++ uses_in_statement plain other) (kept (knows xs) c (left_true (keeps_to_record (knows xs) c) _ is))
+        let rest = right_true (keeps_to_record no_own (knows xs) c) _ is in
+        both (uses_in_expr plain c) (uses_in_statement plain s ++ uses_in_statement plain other) (kept (knows xs) c (left_true (keeps_to_record no_own (knows xs) c) _ is))
         (both (uses_in_statement plain s) (uses_in_statement plain other) (rule s (left_true (only_sums xs s) _ rest)) (rule other (right_true (only_sums xs s) _ rest)))
     rule (While c s) is = absurd (cc)
     rule (Do s c) is = absurd (cc)
@@ -350,14 +350,14 @@ module _ (xs : List Sum) where
 
   -- items
 
-  selected : (p : Pattern) → pattern_keeps_to_record (knows xs) p ≡ true → Fine (uses_in_pattern plain p)
+  selected : (p : Pattern) → pattern_keeps_to_record no_own (knows xs) p ≡ true → Fine (uses_in_pattern plain p)
   selected (Single e) is = kept (knows xs) e is
   selected (Range from to) is = absurd (cc)
 
   item : (x : Item) → is_mergeable_item xs x ≡ true → Fine (uses_in_item x)
   item (Begin block) is = begins block (left_true (all_only_set block) _ is)
   item (Action block) is = rules block is
-  item (PatternAction p block) is = both (uses_in_pattern plain p) (uses_in_block plain block) (selected p (left_true (pattern_keeps_to_record (knows xs) p) _ is)) (rules block (right_true (pattern_keeps_to_record (knows xs) p) _ is))
+  item (PatternAction p block) is = both (uses_in_pattern plain p) (uses_in_block plain block) (selected p (left_true (pattern_keeps_to_record no_own (knows xs) p) _ is)) (rules block (right_true (pattern_keeps_to_record no_own (knows xs) p) _ is))
   item (End block) is = ends block is
   item (PatternOnly p) is = absurd (cc)
   item (Function f parameters block) is = absurd (cc)

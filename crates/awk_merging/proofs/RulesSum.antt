@@ -15,7 +15,7 @@ use Rattle.awk_semantics.specs.definitions.State.{Effect, State, Out, Run}
 use Rattle.awk_semantics.specs.definitions.Primitives.{outside_calls}
 use Rattle.awk_semantics.specs.definitions.Semantics.{Functions, eval, begin_test, exec_simple, pass_on, exec, exec_all}
 use Rattle.awk_semantics.specs.definitions.Items.{run_action, selects, try_item, try_items, unless_next, until_next}
-use Rattle.awk_pieces.specs.definitions.Pieceable.{keeps_to_record, pattern_keeps_to_record}
+use Rattle.awk_pieces.specs.definitions.Pieceable.{no_own, keeps_to_record, pattern_keeps_to_record}
 use Rattle.awk_pieces.proofs.Alike.{Outer, Values}
 use Rattle.awk_pieces.proofs.ReadsAlike.{left_true, right_true}
 use Rattle.awk_merging.specs.definitions.Sums.{Sum}
@@ -30,10 +30,10 @@ module _ (xs : List Sum) (proper : AreProper xs) (distinct : AreApart xs) (befor
   abbrev Does : {A : Type 0} → Run A → Run A → Type 0
   Does m n = Alike xs before base base' o p m n
 
-  abbrev value_of : (e : Expr) → keeps_to_record (knows xs) e ≡ true → Does (eval f e) (eval g e)
+  abbrev value_of : (e : Expr) → keeps_to_record no_own (knows xs) e ≡ true → Does (eval f e) (eval g e)
   value_of e is = reads xs proper distinct before base base' o p f g e is
 
-  assigned_by : (operator : AssignmentOperator) (place e : Expr) → (is_plus operator && (is_sum_place xs place && keeps_to_record (knows xs) e)) ≡ true → Does (drop (eval f (Assign operator place e))) (drop (eval g (Assign operator place e)))
+  assigned_by : (operator : AssignmentOperator) (place e : Expr) → (is_plus operator && (is_sum_place xs place && keeps_to_record no_own (knows xs) e)) ≡ true → Does (drop (eval f (Assign operator place e))) (drop (eval g (Assign operator place e)))
   assigned_by assignment.Add place e is = assigned xs proper distinct before base base' o p f g place e (left_true (is_sum_place xs place) _ is) (right_true (is_sum_place xs place) _ is)
   assigned_by assignment.Plain place e is = absurd (cc)
   assigned_by assignment.Subtract place e is = absurd (cc)
@@ -72,8 +72,8 @@ module _ (xs : List Sum) (proper : AreProper xs) (distinct : AreApart xs) (befor
   addition_alike (ListMembership es x) is = absurd (cc)
   addition_alike (Conditional h a b) is = absurd (cc)
 
-  expression_alike : (e : Expr) → (is_addition xs e || keeps_to_record (knows xs) e) ≡ true → Does (drop (eval f e)) (drop (eval g e))
-  expression_alike e is = elim (or_cases (is_addition xs e) (keeps_to_record (knows xs) e) is) [
+  expression_alike : (e : Expr) → (is_addition xs e || keeps_to_record no_own (knows xs) e) ≡ true → Does (drop (eval f e)) (drop (eval g e))
+  expression_alike e is = elim (or_cases (is_addition xs e) (keeps_to_record no_own (knows xs) e) is) [
     | inl adds ↦ addition_alike e adds
     | inr kept ↦ then_alike xs before base base' o p _ _ (value_of e kept) (λ v. ret_alike xs before base base' o p flow.Normal)
   ]
@@ -91,7 +91,7 @@ module _ (xs : List Sum) (proper : AreProper xs) (distinct : AreApart xs) (befor
   simple_alike (Exit e) is = absurd (cc)
   simple_alike (Return e) is = absurd (cc)
 
-  test_alike : (e : Expr) → keeps_to_record (knows xs) e ≡ true → Does (begin_test f e) (begin_test g e)
+  test_alike : (e : Expr) → keeps_to_record no_own (knows xs) e ≡ true → Does (begin_test f e) (begin_test g e)
   unfolding begin_test
   test_alike e is = then_alike xs before base base' o p _ _ (spend_alike xs before base base' o p) (λ _. tested_alike xs before base base' o p (value_of e is))
 
@@ -109,13 +109,13 @@ module _ (xs : List Sum) (proper : AreProper xs) (distinct : AreApart xs) (befor
     exec_alike (Simple simple) is = simple_alike simple is
     exec_alike (Block all) is = exec_all_alike all is
     exec_alike (If c s) is =
-        let body = exec_alike s (right_true (keeps_to_record (knows xs) c) _ is) in
-        then_alike xs before base base' o p _ _ (test_alike c (left_true (keeps_to_record (knows xs) c) _ is)) (λ x. choose_alike xs before base base' o p x body (ret_alike xs before base base' o p flow.Normal))
+        let body = exec_alike s (right_true (keeps_to_record no_own (knows xs) c) _ is) in
+        then_alike xs before base base' o p _ _ (test_alike c (left_true (keeps_to_record no_own (knows xs) c) _ is)) (λ x. choose_alike xs before base base' o p x body (ret_alike xs before base base' o p flow.Normal))
     exec_alike (IfElse c s other) is =
-        let both = right_true (keeps_to_record (knows xs) c) _ is in
+        let both = right_true (keeps_to_record no_own (knows xs) c) _ is in
         let body = exec_alike s (left_true (only_sums xs s) _ both) in
         let rest = exec_alike other (right_true (only_sums xs s) _ both) in
-        then_alike xs before base base' o p _ _ (test_alike c (left_true (keeps_to_record (knows xs) c) _ is)) (λ x. choose_alike xs before base base' o p x body rest)
+        then_alike xs before base base' o p _ _ (test_alike c (left_true (keeps_to_record no_own (knows xs) c) _ is)) (λ x. choose_alike xs before base base' o p x body rest)
     exec_alike (While c s) is = absurd (cc)
     exec_alike (Do s c) is = absurd (cc)
     exec_alike (ForIn x array s) is = absurd (cc)
@@ -131,7 +131,7 @@ module _ (xs : List Sum) (proper : AreProper xs) (distinct : AreApart xs) (befor
   unfolding run_action
   action_alike all is = then_alike xs before base base' o p _ _ (exec_all_alike all is) (λ c. ret_alike xs before base base' o p tt)
 
-  selects_alike : (m n : ℕ) (q : Pattern) → pattern_keeps_to_record (knows xs) q ≡ true → Does (selects f m q) (selects g n q)
+  selects_alike : (m n : ℕ) (q : Pattern) → pattern_keeps_to_record no_own (knows xs) q ≡ true → Does (selects f m q) (selects g n q)
   unfolding selects
   selects_alike m n (Single e) is = tested_alike xs before base base' o p (value_of e is)
   selects_alike m n (Range from to) is = absurd (cc)
@@ -142,8 +142,8 @@ module _ (xs : List Sum) (proper : AreProper xs) (distinct : AreApart xs) (befor
   item_alike m n (End block) is = ret_alike xs before base base' o p tt
   item_alike m n (Action block) is = action_alike block is
   item_alike m n (PatternAction q block) is =
-      then_alike xs before base base' o p _ _ (selects_alike m n q (left_true (pattern_keeps_to_record (knows xs) q) _ is))
-      (λ b. choose_alike xs before base base' o p b (action_alike block (right_true (pattern_keeps_to_record (knows xs) q) _ is)) (ret_alike xs before base base' o p tt))
+      then_alike xs before base base' o p _ _ (selects_alike m n q (left_true (pattern_keeps_to_record no_own (knows xs) q) _ is))
+      (λ b. choose_alike xs before base base' o p b (action_alike block (right_true (pattern_keeps_to_record no_own (knows xs) q) _ is)) (ret_alike xs before base base' o p tt))
   item_alike m n (PatternOnly q) is = absurd (cc)
   item_alike m n (Function name parameters block) is = absurd (cc)
 

@@ -11,8 +11,8 @@ use Rattle.awk_semantics.specs.declared.fault.Fault.TheVariants as fault
 use Rattle.awk_semantics.specs.definitions.State.{Effect, State, Out, Run, go_on, ◌>>=◌, lift, ret}
 use Rattle.awk_semantics.specs.definitions.Primitives.{spend, spend_of}
 use Rattle.awk_semantics.specs.definitions.Semantics.{tested, choose}
-use Rattle.awk_pieces.specs.definitions.Pieceable.{tells_apart}
-use Rattle.awk_pieces.proofs.Alike.{Outer, Sorts, Values, SameKinds}
+use Rattle.awk_pieces.specs.definitions.Pieceable.{tells_apart, no_own}
+use Rattle.awk_pieces.proofs.Alike.{Outer, Sorts, Values, SameKinds, SetsApart}
 use Rattle.awk_pieces.proofs.Alike.{state_on as plain_state, Same as PlainSame, Covers as PlainCovers, Alike as PlainAlike}
 use Rattle.awk_merging.specs.definitions.Sums.{Sum}
 use Rattle.awk_merging.specs.definitions.LawOfStates.{Tables}
@@ -63,7 +63,10 @@ go_lost y g lost = rw lost refl
 
 -- expressions change no variable
 abbrev pub reading_sorts : List Sum → Sorts
-reading_sorts xs = record { kept = λ x. true; shared = knows xs; shows = false }
+reading_sorts xs = record { kept = λ x. true; shared = knows xs; own = no_own; shows = false }
+
+pub reading_apart : (xs : List Sum) → SetsApart (reading_sorts xs)
+reading_apart xs = record { count = λ x own. absurd (cc); kept = λ x z own kept. absurd (cc) }
 
 module _ (xs : List Sum) (before : Tables) (base base' : State) (o p : Outer) where
   abbrev pub at : RecordPair → List Array → Values → ℕ → State

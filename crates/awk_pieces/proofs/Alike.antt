@@ -1,6 +1,6 @@
 -- Two runs that treat a record alike: on states that differ in their input, in the steps that are left, in the
 -- variables that aren't known to be the same, and in their arrays.
-use Rattle.std.proofs.Common.{◌≡◌, ℕ, ◌+◌, Bool, true, false, List, [], ◌∷◌, ◌++◌, Option, Result, Ok, Err, refl, ap, ◌∙◌, zero, suc, ◌≤◌, le_trans, codes, length}
+use Rattle.std.proofs.Common.{◌≡◌, ℕ, ◌+◌, Bool, true, false, List, [], ◌∷◌, ◌++◌, Option, Result, Ok, Err, refl, ap, ◌∙◌, zero, suc, ◌≤◌, le_trans, codes, bytes_eq, length}
 use Rattle.std.specs.Prelude.{IfOk}
 use Rattle.awk_value.specs.declared.value.Value.{Value}
 use Rattle.awk_record.specs.definitions.Record.{RecordPair}
@@ -28,12 +28,19 @@ Values = List ℕ → Value
 abbrev pub state_on : State → Outer → RecordPair → Values → ℕ → State
 state_on base o c v k = record base { outside = o.outside; main = o.main; current = c; variables = v; frames = []; streams = []; next = 1; status = 0; input_seen = o.seen; steps = k }
 
--- the names of the variables that no rule changes, and of those that have the same values on both sides as a record begins
+-- the names of the variables that no rule changes, of those that have the same values on both sides as a record begins, and of
+-- those of the record
 pub record Sorts : Type 0 where
   pub kept : Names
   pub shared : Names
+  pub own : Names
   -- whether anything is shown
   pub shows : Bool
+
+-- variables of the record aren't awk's number of fields, nor among those that no rule changes
+pub record SetsApart (sorts : Sorts) : Type 0 where
+  pub count : (x : List ℕ) → sorts.own x ≡ true → bytes_eq x (codes "NF") ≡ false
+  pub kept : (x z : List ℕ) → sorts.own x ≡ true → sorts.kept z ≡ true → bytes_eq x z ≡ false
 
 -- the variables by which a record is cut into fields and made of them, and a line is printed, are known
 pub record OwnsSeparators (known : Names) : Type 0 where
@@ -114,6 +121,23 @@ Covers sorts known base base' o p v w k d (Err halt.Exit) x y = ⊥
 -- from states that are alike on the names known before, to such on those known behind
 pub record Alike {A : Type 0} (sorts : Sorts) (before known : Names) (base base' : State) (m n : Run A) : Type 0 where
   pub covers : (o p : Outer) (c : RecordPair) (v w : Values) (k d : ℕ) → AgreeOn before v w → Covers sorts known base base' o p v w k d (m (state_on base o c v k)).result (m (state_on base o c v k)) (n (state_on base' p c w (k + d)))
+
+abbrev pub IsWithin : Names → Names → Type 0
+IsWithin kept known = (x : List ℕ) → kept x ≡ true → known x ≡ true
+
+pub same_within : {A : Type 0} {sorts : Sorts} {fewer known : Names} {base base' : State} {o p : Outer} {v w : Values} {k d : ℕ} {x y : Out A} → IsWithin fewer known → Same sorts known base base' o p v w k d x y → Same sorts fewer base base' o p v w k d x y
+same_within within c = record { pair = c.pair; left = c.left; here = c.here; there = c.there; agrees = λ x e. c.agrees x (within x e); keeps = c.keeps; keeps_there = c.keeps_there; falls = c.falls; is_here = c.is_here; is_there = c.is_there; plain = c.plain }
+
+covers_within : {A : Type 0} (sorts : Sorts) (fewer known : Names) (base base' : State) (o p : Outer) (v w : Values) (k d : ℕ) (r : Result A Halt) (x y : Out A) → IsWithin fewer known → Covers sorts known base base' o p v w k d r x y → Covers sorts fewer base base' o p v w k d r x y
+covers_within sorts fewer known base base' o p v w k d (Ok a) x y within c = same_within within c
+covers_within sorts fewer known base base' o p v w k d (Err (halt.Fault f)) x y within c = tt
+covers_within sorts fewer known base base' o p v w k d (Err halt.OutOfSteps) x y within c = tt
+covers_within sorts fewer known base base' o p v w k d (Err halt.Next) x y within c = c
+covers_within sorts fewer known base base' o p v w k d (Err halt.Exit) x y within c = absurd c
+
+-- fewer names are known behind it
+pub alike_within : {A : Type 0} {sorts : Sorts} {before fewer known : Names} {base base' : State} {m n : Run A} → IsWithin fewer known → Alike sorts before known base base' m n → Alike sorts before fewer base base' m n
+alike_within {sorts = sorts} {fewer = fewer} {known = known} {base = base} {base' = base'} {m = m} {n = n} within h = record { covers = λ o p c v w k d agrees. covers_within sorts fewer known base base' o p v w k d (m (state_on base o c v k)).result (m (state_on base o c v k)) (n (state_on base' p c w (k + d))) within (h.covers o p c v w k d agrees) }
 
 pub same_behind : {A : Type 0} (sorts : Sorts) (known : Names) (base base' : State) (o p : Outer) (v w u z : Values) (k l d : ℕ) (effects : List Effect) (x y : Out A) → AreShown sorts.shows effects → AgreeOn sorts.kept v u → AgreeOn sorts.kept w z → l ≤ k → Same sorts known base base' o p u z l d x y → Same sorts known base base' o p v w k d (behind effects x) (behind effects y)
 same_behind sorts known base base' o p v w u z k l d effects x y plain keeps keeps_there falls c = record {

@@ -19,9 +19,9 @@ use Rattle.awk_semantics.specs.definitions.Places.{AName, store, read_place, ass
 use Rattle.awk_semantics.specs.definitions.Semantics.{Functions, eval, exec_simple, pass_on, exec, exec_all}
 use Rattle.awk_semantics.specs.definitions.Items.{run_action, begin_item, begin_items}
 use Rattle.awk_semantics.specs.definitions.Meaning.{assign_all}
-use Rattle.awk_pieces.specs.definitions.Pieceable.{leaves_records, keeps_to_record, is_plain, may_be_set, is_setting, is_simple_setting, only_sets, all_only_set, is_rule_for_itself, are_rules_for_themselves}
+use Rattle.awk_pieces.specs.definitions.Pieceable.{leaves_records, no_own, keeps_to_record, is_plain, may_be_set, is_setting, is_simple_setting, only_sets, all_only_set, is_rule_for_itself, are_rules_for_themselves}
 use Rattle.awk_pieces.specs.definitions.LawOfPieces.{all_leave_records}
-use Rattle.awk_pieces.proofs.Alike.{Outer, Names, OwnsSeparators, Sorts, Values, state_on, SameKinds, own_kinds, AgreeOn, Covers, Alike, then_alike}
+use Rattle.awk_pieces.proofs.Alike.{Outer, Names, OwnsSeparators, Sorts, SetsApart, Values, state_on, SameKinds, own_kinds, AgreeOn, Covers, Alike, then_alike}
 use Rattle.awk_pieces.proofs.ReadsAlike.{left_true, right_true, unmoved, ret_alike, spend_alike, name_alike}
 use Rattle.awk_pieces.proofs.ExpressionsAlike.{expression_alike}
 use Rattle.awk_pieces.proofs.ValuesAndFaults.{IsValueOrFault}
@@ -31,7 +31,11 @@ all_names x = true
 
 -- before the records both sides have the same variables, and those that may not be set keep their values
 abbrev pub first_sorts : Names → Sorts
-first_sorts may = record { kept = λ x. not (may x); shared = all_names; shows = false }
+first_sorts may = record { kept = λ x. not (may x); shared = all_names; own = no_own; shows = false }
+
+-- where there are no variables of the record
+pub none_apart : (may : Names) → SetsApart (first_sorts may)
+none_apart may = record { count = λ x own. absurd (cc); kept = λ x z own kept. absurd (cc) }
 
 all_owned : OwnsSeparators all_names
 all_owned = record { fs = refl; rs = refl; ofs = refl; ors = refl }
@@ -41,7 +45,7 @@ none_true true e f = cc
 none_true false e f = cc
 
 -- the name of a variable that may be set isn't one that is kept
-set_apart : (may : Names) (x z : List ℕ) → may x ≡ true → not (may z) ≡ true → bytes_eq x z ≡ false
+pub set_apart : (may : Names) (x z : List ℕ) → may x ≡ true → not (may z) ≡ true → bytes_eq x z ≡ false
 set_apart may x z leaves keeps = elim (cases_Bool (bytes_eq x z)) [
   | inl same ↦ absurd (none_true (may z) (ap may (sym ((bytes_eq-Decides x z).0 same)) ∙ leaves) keeps)
   | inr other ↦ other
@@ -135,11 +139,11 @@ module _ (may : Names) (narrow : (x : List ℕ) → may x ≡ true → leaves_re
 
   -- the actions of BEGIN
   module _ (f g : Functions) where
-    set_alike : (x : List ℕ) (e : Expr) → may x ≡ true → keeps_to_record all_names e ≡ true → Begins (eval f (Assign assignment.Plain (Name x) e)) (eval g (Assign assignment.Plain (Name x) e))
+    set_alike : (x : List ℕ) (e : Expr) → may x ≡ true → keeps_to_record no_own all_names e ≡ true → Begins (eval f (Assign assignment.Plain (Name x) e)) (eval g (Assign assignment.Plain (Name x) e))
     unfolding eval lift ◌>>=◌ go_on
-    set_alike x e leaves is = record { covers = λ o p c v w k d agrees. (then_alike _ _ (expression_alike (first_sorts may) all_names base base' names.kinds all_owned f g e is) (λ a. assign_by_alike x a leaves)).covers o p c v w k d agrees }
+    set_alike x e leaves is = record { covers = λ o p c v w k d agrees. (then_alike _ _ (expression_alike (first_sorts may) (none_apart may) all_names base base' names.kinds all_owned f g e is) (λ a. assign_by_alike x a leaves)).covers o p c v w k d agrees }
 
-    place_alike : (place e : Expr) → MayPlace may place → (may_be_set place && keeps_to_record all_names e) ≡ true → Begins (eval f (Assign assignment.Plain place e)) (eval g (Assign assignment.Plain place e))
+    place_alike : (place e : Expr) → MayPlace may place → (may_be_set place && keeps_to_record no_own all_names e) ≡ true → Begins (eval f (Assign assignment.Plain place e)) (eval g (Assign assignment.Plain place e))
     place_alike (Name x) e set is = set_alike x e set (right_true (leaves_records x) _ is)
     place_alike (Number n) e set is = absurd (cc)
     place_alike (String bytes) e set is = absurd (cc)
@@ -161,7 +165,7 @@ module _ (may : Names) (narrow : (x : List ℕ) → may x ≡ true → leaves_re
     place_alike (Conditional c a b) e set is = absurd (cc)
     place_alike (Assign c p a) e set is = absurd (cc)
 
-    operator_alike : (operator : AssignmentOperator) (place e : Expr) → MayPlace may place → (is_plain operator && (may_be_set place && keeps_to_record all_names e)) ≡ true → Begins (eval f (Assign operator place e)) (eval g (Assign operator place e))
+    operator_alike : (operator : AssignmentOperator) (place e : Expr) → MayPlace may place → (is_plain operator && (may_be_set place && keeps_to_record no_own all_names e)) ≡ true → Begins (eval f (Assign operator place e)) (eval g (Assign operator place e))
     operator_alike assignment.Plain place e set is = place_alike place e set is
     operator_alike assignment.Add place e set is = absurd (cc)
     operator_alike assignment.Subtract place e set is = absurd (cc)
@@ -262,16 +266,16 @@ module _ (base base' : State) (names : SameNames base base') (f g : Functions) w
   abbrev Leaves : {A : Type 0} → Run A → Run A → Type 0
   Leaves m n = Alike (first_sorts leaves_records) all_names all_names base base' m n
 
-  begin_item_alike : (known : Names) (x : Item) → is_rule_for_itself known x ≡ true → Leaves (begin_item f x) (begin_item g x)
+  begin_item_alike : (own known : Names) (x : Item) → is_rule_for_itself own known x ≡ true → Leaves (begin_item f x) (begin_item g x)
   unfolding begin_item
-  begin_item_alike known (Begin block) is = block_alike leaves_records (λ x is. is) base base' names f g block (leaves_all block is) is
-  begin_item_alike known (Action block) is = ret_alike (first_sorts leaves_records) all_names base base' tt
-  begin_item_alike known (PatternAction p block) is = ret_alike (first_sorts leaves_records) all_names base base' tt
-  begin_item_alike known (PatternOnly p) is = ret_alike (first_sorts leaves_records) all_names base base' tt
-  begin_item_alike known (End block) is = absurd (cc)
-  begin_item_alike known (Function name parameters block) is = absurd (cc)
+  begin_item_alike own known (Begin block) is = block_alike leaves_records (λ x is. is) base base' names f g block (leaves_all block is) is
+  begin_item_alike own known (Action block) is = ret_alike (first_sorts leaves_records) all_names base base' tt
+  begin_item_alike own known (PatternAction p block) is = ret_alike (first_sorts leaves_records) all_names base base' tt
+  begin_item_alike own known (PatternOnly p) is = ret_alike (first_sorts leaves_records) all_names base base' tt
+  begin_item_alike own known (End block) is = absurd (cc)
+  begin_item_alike own known (Function name parameters block) is = absurd (cc)
 
-  pub begin_items_alike : (known : Names) (xs : List Item) → are_rules_for_themselves known xs ≡ true → Leaves (begin_items f xs) (begin_items g xs)
+  pub begin_items_alike : (own known : Names) (xs : List Item) → are_rules_for_themselves own known xs ≡ true → Leaves (begin_items f xs) (begin_items g xs)
   unfolding begin_items
-  begin_items_alike known [] is = ret_alike (first_sorts leaves_records) all_names base base' tt
-  begin_items_alike known (x ∷ xs) is = then_alike _ _ (begin_item_alike known x (left_true (is_rule_for_itself known x) _ is)) (λ _. begin_items_alike known xs (right_true (is_rule_for_itself known x) _ is))
+  begin_items_alike own known [] is = ret_alike (first_sorts leaves_records) all_names base base' tt
+  begin_items_alike own known (x ∷ xs) is = then_alike _ _ (begin_item_alike own known x (left_true (is_rule_for_itself own known x) _ is)) (λ _. begin_items_alike own known xs (right_true (is_rule_for_itself own known x) _ is))

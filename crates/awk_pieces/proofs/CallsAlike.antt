@@ -11,80 +11,80 @@ use Rattle.awk_semantics.specs.definitions.Operators.{pattern_in}
 use Rattle.awk_semantics.specs.definitions.Places.{Place, AField, read_place}
 use Rattle.awk_semantics.specs.definitions.BuiltIns.{Role, AsValue, AsPattern, AsArray, AsPlace, AsMeasured, Argument, OfValue, OfEre, OfArray, OfPlace, value_of, text_at, roles_of, ere_or, array_or_value, array_named_or, target_of, assign_exchange, exchange, applied_all, count_elements, apply_built_in}
 use Rattle.awk_pieces.specs.definitions.Pieceable.{is_of_record, third_is_of_record, may_be_called}
-use Rattle.awk_pieces.proofs.Alike.{Names, OwnsSeparators, Sorts, SameKinds, AlikeWith, then_alike, then_where, then_with, with_any}
+use Rattle.awk_pieces.proofs.Alike.{Names, OwnsSeparators, Sorts, SetsApart, SameKinds, AlikeWith, then_alike, then_where, then_with, with_any}
 use Rattle.awk_pieces.proofs.ReadsAlike.{Reads, lift_alike, ret_alike, ret_with, text_alike, is_array_alike, array_length_alike, record_length_alike}
 use Rattle.awk_pieces.proofs.PlacesAlike.{IsOfRecord, store_alike, read_place_alike}
 use Rattle.awk_pieces.proofs.ValuesAndFaults.{pattern_faults, applied_all_faults}
 
 -- an argument that is in the record, where it is a place, and known, where it is an array
-abbrev pub IsKept : Names → Argument → Type 0
-IsKept known (OfPlace q old) = IsOfRecord known q
-IsKept known (OfArray x) = known x ≡ true
-IsKept known a = Unit {0}
+abbrev pub IsKept : Sorts → Names → Argument → Type 0
+IsKept sorts known (OfPlace q old) = IsOfRecord sorts known q
+IsKept sorts known (OfArray x) = known x ≡ true
+IsKept sorts known a = Unit {0}
 
 -- the name is known, where there is one
 abbrev pub IsKnown : Names → Option (List ℕ) → Type 0
 IsKnown known None = Unit {0}
 IsKnown known (Some x) = known x ≡ true
 
-abbrev pub AreKept : Names → List Argument → Type 0
-AreKept known [] = Unit {0}
-AreKept known (a ∷ xs) = IsKept known a × AreKept known xs
+abbrev pub AreKept : Sorts → Names → List Argument → Type 0
+AreKept sorts known [] = Unit {0}
+AreKept sorts known (a ∷ xs) = IsKept sorts known a × AreKept sorts known xs
 
-pub kept_append : (known : Names) (xs ys : List Argument) → AreKept known xs → AreKept known ys → AreKept known (xs ++ ys)
-kept_append known [] ys is are = are
-kept_append known (a ∷ xs) ys is are = (is.0, kept_append known xs ys is.1 are)
+pub kept_append : (sorts : Sorts) (known : Names) (xs ys : List Argument) → AreKept sorts known xs → AreKept sorts known ys → AreKept sorts known (xs ++ ys)
+kept_append sorts known [] ys is are = are
+kept_append sorts known (a ∷ xs) ys is are = (is.0, kept_append sorts known xs ys is.1 are)
 
-abbrev IsTarget : Names → Option Argument → Type 0
-IsTarget known None = Unit {0}
-IsTarget known (Some a) = IsKept known a
+abbrev IsTarget : Sorts → Names → Option Argument → Type 0
+IsTarget sorts known None = Unit {0}
+IsTarget sorts known (Some a) = IsKept sorts known a
 
-kept_at : (known : Names) (xs : List Argument) (n : ℕ) → AreKept known xs → IsTarget known (slice_get xs n)
-kept_at known [] n are = tt
-kept_at known (a ∷ xs) zero are = are.0
-kept_at known (a ∷ xs) (suc n) are = kept_at known xs n are.1
+kept_at : (sorts : Sorts) (known : Names) (xs : List Argument) (n : ℕ) → AreKept sorts known xs → IsTarget sorts known (slice_get xs n)
+kept_at sorts known [] n are = tt
+kept_at sorts known (a ∷ xs) zero are = are.0
+kept_at sorts known (a ∷ xs) (suc n) are = kept_at sorts known xs n are.1
 
 -- expressions that may be taken so: no array, and places in the record alone
-abbrev pub MayBeTaken : List Role → Exprs → Type 0
-MayBeTaken roles Nil = Unit {0}
-MayBeTaken [] (Cons e es) = Unit {0}
-MayBeTaken (AsValue ∷ roles) (Cons e es) = MayBeTaken roles es
-MayBeTaken (AsPattern ∷ roles) (Cons e es) = MayBeTaken roles es
-MayBeTaken (AsMeasured ∷ roles) (Cons e es) = MayBeTaken roles es
-MayBeTaken (AsPlace ∷ roles) (Cons e es) = (is_of_record e ≡ true) × MayBeTaken roles es
-MayBeTaken (AsArray ∷ roles) (Cons e es) = ⊥
+abbrev pub MayBeTaken : (own : Names) → List Role → Exprs → Type 0
+MayBeTaken own roles Nil = Unit {0}
+MayBeTaken own [] (Cons e es) = Unit {0}
+MayBeTaken own (AsValue ∷ roles) (Cons e es) = MayBeTaken own roles es
+MayBeTaken own (AsPattern ∷ roles) (Cons e es) = MayBeTaken own roles es
+MayBeTaken own (AsMeasured ∷ roles) (Cons e es) = MayBeTaken own roles es
+MayBeTaken own (AsPlace ∷ roles) (Cons e es) = (is_of_record own e ≡ true) × MayBeTaken own roles es
+MayBeTaken own (AsArray ∷ roles) (Cons e es) = ⊥
 
-pub values_taken : (es : Exprs) → MayBeTaken [] es
-values_taken Nil = tt
-values_taken (Cons e es) = tt
+pub values_taken : (own : Names) (es : Exprs) → MayBeTaken own [] es
+values_taken own Nil = tt
+values_taken own (Cons e es) = tt
 
-measured_taken : (es : Exprs) → MayBeTaken (AsMeasured ∷ []) es
-measured_taken Nil = tt
-measured_taken (Cons e es) = values_taken es
+measured_taken : (own : Names) (es : Exprs) → MayBeTaken own (AsMeasured ∷ []) es
+measured_taken own Nil = tt
+measured_taken own (Cons e es) = values_taken own es
 
-exchanged_taken : (es : Exprs) → third_is_of_record es ≡ true → MayBeTaken (AsPattern ∷ AsValue ∷ AsPlace ∷ []) es
-exchanged_taken Nil is = tt
-exchanged_taken (Cons a Nil) is = tt
-exchanged_taken (Cons a (Cons b Nil)) is = tt
-exchanged_taken (Cons a (Cons b (Cons place es))) is = (is, values_taken es)
+exchanged_taken : (own : Names) (es : Exprs) → third_is_of_record own es ≡ true → MayBeTaken own (AsPattern ∷ AsValue ∷ AsPlace ∷ []) es
+exchanged_taken own Nil is = tt
+exchanged_taken own (Cons a Nil) is = tt
+exchanged_taken own (Cons a (Cons b Nil)) is = tt
+exchanged_taken own (Cons a (Cons b (Cons place es))) is = (is, values_taken own es)
 
-pub may_be_taken : (f : BuiltInName) (es : Exprs) → may_be_called f es ≡ true → MayBeTaken (roles_of f) es
-may_be_taken built_in.Length es is = measured_taken es
-may_be_taken built_in.Substr es is = values_taken es
-may_be_taken built_in.Index es is = values_taken es
-may_be_taken built_in.Sprintf es is = values_taken es
-may_be_taken built_in.ToLower es is = values_taken es
-may_be_taken built_in.ToUpper es is = values_taken es
-may_be_taken built_in.Int es is = values_taken es
-may_be_taken built_in.Sub es is = exchanged_taken es is
-may_be_taken built_in.Gsub es is = exchanged_taken es is
-may_be_taken built_in.Split es is = absurd (cc)
-may_be_taken built_in.Match es is = absurd (cc)
-may_be_taken built_in.System es is = absurd (cc)
-may_be_taken built_in.Close es is = absurd (cc)
-may_be_taken built_in.Fflush es is = absurd (cc)
+pub may_be_taken : (own : Names) (f : BuiltInName) (es : Exprs) → may_be_called own f es ≡ true → MayBeTaken own (roles_of f) es
+may_be_taken own built_in.Length es is = measured_taken own es
+may_be_taken own built_in.Substr es is = values_taken own es
+may_be_taken own built_in.Index es is = values_taken own es
+may_be_taken own built_in.Sprintf es is = values_taken own es
+may_be_taken own built_in.ToLower es is = values_taken own es
+may_be_taken own built_in.ToUpper es is = values_taken own es
+may_be_taken own built_in.Int es is = values_taken own es
+may_be_taken own built_in.Sub es is = exchanged_taken own es is
+may_be_taken own built_in.Gsub es is = exchanged_taken own es is
+may_be_taken own built_in.Split es is = absurd (cc)
+may_be_taken own built_in.Match es is = absurd (cc)
+may_be_taken own built_in.System es is = absurd (cc)
+may_be_taken own built_in.Close es is = absurd (cc)
+may_be_taken own built_in.Fflush es is = absurd (cc)
 
-module _ (sorts : Sorts) (known : Names) (base base' : State) (kinds : SameKinds known base base') (owns : OwnsSeparators known) where
+module _ (sorts : Sorts) (apart : SetsApart sorts) (known : Names) (base base' : State) (kinds : SameKinds known base base') (owns : OwnsSeparators known) where
   abbrev Does : {A : Type 0} → Run A → Run A → Type 0
   Does m n = Reads sorts known base base' m n
 
@@ -93,10 +93,10 @@ module _ (sorts : Sorts) (known : Names) (base base' : State) (kinds : SameKinds
 
   -- arguments
 
-  pub value_taken : {m n : Run Value} → Does m n → DoesWith (IsKept known) (m >>= λ v. ret (OfValue v)) (n >>= λ v. ret (OfValue v))
+  pub value_taken : {m n : Run Value} → Does m n → DoesWith (IsKept sorts known) (m >>= λ v. ret (OfValue v)) (n >>= λ v. ret (OfValue v))
   value_taken h = then_with _ _ (with_any h) (λ v _. ret_with sorts known base base' (OfValue v) tt)
 
-  pub ere_taken : (e : Expr) {m n : Run Value} → Does m n → DoesWith (IsKept known) (ere_or e m) (ere_or e n)
+  pub ere_taken : (e : Expr) {m n : Run Value} → Does m n → DoesWith (IsKept sorts known) (ere_or e m) (ere_or e n)
   ere_taken (Ere text) h = ret_with sorts known base base' (OfEre text) tt
   ere_taken (Number n) h = value_taken h
   ere_taken (String bytes) h = value_taken h
@@ -118,39 +118,39 @@ module _ (sorts : Sorts) (known : Names) (base base' : State) (kinds : SameKinds
   ere_taken (Conditional c a b) h = value_taken h
   ere_taken (Assign c p a) h = value_taken h
 
-  array_or_value_taken : (b : Bool) (x : List ℕ) {m n : Run Value} → known x ≡ true → Does m n → DoesWith (IsKept known) (array_or_value b x m) (array_or_value b x n)
+  array_or_value_taken : (b : Bool) (x : List ℕ) {m n : Run Value} → known x ≡ true → Does m n → DoesWith (IsKept sorts known) (array_or_value b x m) (array_or_value b x n)
   array_or_value_taken true x is h = ret_with sorts known base base' (OfArray x) is
   array_or_value_taken false x is h = value_taken h
 
-  pub measured : (name : Option (List ℕ)) {m n : Run Value} → IsKnown known name → Does m n → DoesWith (IsKept known) (array_named_or name m) (array_named_or name n)
+  pub measured : (name : Option (List ℕ)) {m n : Run Value} → IsKnown known name → Does m n → DoesWith (IsKept sorts known) (array_named_or name m) (array_named_or name n)
   measured None is h = value_taken h
   measured (Some x) is h = then_with _ _ (with_any (is_array_alike sorts known base base' x (kinds x is))) (λ b _. array_or_value_taken b x is h)
 
-  pub place_taken : {m n : Run Place} → DoesWith (IsOfRecord known) m n → DoesWith (IsKept known) (m >>= λ q. read_place q >>= λ v. ret (OfPlace q v)) (n >>= λ q. read_place q >>= λ v. ret (OfPlace q v))
-  place_taken h = then_with _ _ h (λ q is. then_with _ _ (with_any (read_place_alike sorts known base base' owns q is)) (λ v _. ret_with sorts known base base' (OfPlace q v) is))
+  pub place_taken : {m n : Run Place} → DoesWith (IsOfRecord sorts known) m n → DoesWith (IsKept sorts known) (m >>= λ q. read_place q >>= λ v. ret (OfPlace q v)) (n >>= λ q. read_place q >>= λ v. ret (OfPlace q v))
+  place_taken h = then_with _ _ h (λ q is. then_with _ _ (with_any (read_place_alike sorts apart known base base' owns q is)) (λ v _. ret_with sorts known base base' (OfPlace q v) is))
 
   -- exchanges in the record
 
   abbrev InRecord : Place × Value → Type 0
-  InRecord target = IsOfRecord known target.0
+  InRecord target = IsOfRecord sorts known target.0
 
   record_target : DoesWith InRecord (target_of None) (target_of None)
   record_target = then_with _ _ (with_any (text_alike sorts known base base')) (λ v _. ret_with sorts known base base' (AField (pos 0), v) tt)
 
-  target_alike : (a : Option Argument) → IsTarget known a → DoesWith InRecord (target_of a) (target_of a)
+  target_alike : (a : Option Argument) → IsTarget sorts known a → DoesWith InRecord (target_of a) (target_of a)
   target_alike None is = record_target
   target_alike (Some (OfValue v)) is = record_target
   target_alike (Some (OfEre text)) is = record_target
   target_alike (Some (OfArray x)) is = record_target
   target_alike (Some (OfPlace q old)) is = ret_with sorts known base base' (q, old) is
 
-  assign_exchange_alike : (q : Place) (n : ℕ) (text : List ℕ) → IsOfRecord known q → Does (assign_exchange q n text) (assign_exchange q n text)
+  assign_exchange_alike : (q : Place) (n : ℕ) (text : List ℕ) → IsOfRecord sorts known q → Does (assign_exchange q n text) (assign_exchange q n text)
   assign_exchange_alike q zero text is = ret_alike sorts known base base' _
-  assign_exchange_alike q (suc n) text is = then_alike _ _ (store_alike sorts known base base' owns q (value.Text text) is) (λ _. ret_alike sorts known base base' _)
+  assign_exchange_alike q (suc n) text is = then_alike _ _ (store_alike sorts apart known base base' owns q (value.Text text) is) (λ _. ret_alike sorts known base base' _)
 
-  exchange_alike : (all : Bool) (xs : List Argument) → AreKept known xs → Does (exchange all xs) (exchange all xs)
+  exchange_alike : (all : Bool) (xs : List Argument) → AreKept sorts known xs → Does (exchange all xs) (exchange all xs)
   unfolding exchange
-  exchange_alike all xs are = then_where _ _ (target_alike (slice_get xs 2) (kept_at known xs 2 are)) (λ target is.
+  exchange_alike all xs are = then_where _ _ (target_alike (slice_get xs 2) (kept_at sorts known xs 2 are)) (λ target is.
       then_alike _ _ (lift_alike sorts known base base' (pattern_in (text_at xs 0)) (pattern_faults (pattern_of (text_at xs 0)))) (λ t. assign_exchange_alike target.0 _ _ is))
 
   -- what a built-in function makes of its arguments
@@ -162,7 +162,7 @@ module _ (sorts : Sorts) (known : Names) (base base' : State) (kinds : SameKinds
   applied_alike : (f : BuiltInName) (xs : List Argument) → Does (lift (applied_all f (map value_of xs))) (lift (applied_all f (map value_of xs)))
   applied_alike f xs = lift_alike sorts known base base' (applied_all f (map value_of xs)) (applied_all_faults f (map value_of xs))
 
-  length_alike : (xs : List Argument) → AreKept known xs → Does (apply_built_in built_in.Length xs) (apply_built_in built_in.Length xs)
+  length_alike : (xs : List Argument) → AreKept sorts known xs → Does (apply_built_in built_in.Length xs) (apply_built_in built_in.Length xs)
   unfolding apply_built_in
   length_alike [] are = record_length_alike sorts known base base'
   length_alike (OfArray x ∷ xs) are = elements_alike x are.0
@@ -170,7 +170,7 @@ module _ (sorts : Sorts) (known : Names) (base base' : State) (kinds : SameKinds
   length_alike (OfEre text ∷ xs) are = applied_alike built_in.Length (OfEre text ∷ xs)
   length_alike (OfPlace q old ∷ xs) are = applied_alike built_in.Length (OfPlace q old ∷ xs)
 
-  pub built_in_alike : (f : BuiltInName) (es : Exprs) (xs : List Argument) → may_be_called f es ≡ true → AreKept known xs → Does (apply_built_in f xs) (apply_built_in f xs)
+  pub built_in_alike : (f : BuiltInName) (es : Exprs) (xs : List Argument) → may_be_called sorts.own f es ≡ true → AreKept sorts known xs → Does (apply_built_in f xs) (apply_built_in f xs)
   unfolding apply_built_in
   built_in_alike built_in.Length es xs is are = length_alike xs are
   built_in_alike built_in.Substr es xs is are = applied_alike built_in.Substr xs

@@ -1,11 +1,12 @@
 -- The law of pieces.
-use Rattle.std.proofs.Common.{◌≡◌, inl, inr, ℕ, zero, suc, ◌+◌, ◌-◌, ◌<◌, ◌≤◌, ◌^◌, Bool, true, false, not, List, [], ◌∷◌, ◌++◌, length, Result, Ok, Err, pos, refl, sym, ap, ap₂, ◌∙◌, subst, codes, bytes_eq, arith, append_assoc, append-nil, le_trans, cond}
+use Rattle.std.proofs.Common.{◌≡◌, inl, inr, ℕ, zero, suc, ◌+◌, ◌-◌, ◌<◌, ◌≤◌, ◌^◌, Bool, true, false, not, ◌&&◌, ◌||◌, List, [], ◌∷◌, ◌++◌, length, Result, Ok, Err, pos, refl, sym, ap, ap₂, ◌∙◌, subst, codes, bytes_eq, arith, append_assoc, append-nil, le_trans, cond}
 use Rattle.std.proofs.lemmas.Bool.{cases_Bool}
 use Rattle.std.proofs.lemmas.Slice.Eq.{bytes_eq-Decides}
 use Rattle.awk_value.specs.declared.value.Value.{Value}
 use Rattle.awk_value.specs.declared.value.Value.TheVariants as value
 use Rattle.awk_value.specs.Values.{str_of}
 use Rattle.awk_record.specs.definitions.Record.{RecordPair}
+use Rattle.awk_kinds.specs.Names.{has_name}
 use Rattle.awk_kinds.specs.Variables.{initial_value}
 use Rattle.awk_kinds.specs.definitions.Kinds.{definitions_of}
 use Rattle.awk_world.specs.declared.world.InputKind.TheVariants as input
@@ -21,12 +22,12 @@ use Rattle.awk_semantics.specs.definitions.Semantics.{Functions, choose}
 use Rattle.awk_semantics.specs.definitions.Calls.{functions_within}
 use Rattle.awk_semantics.specs.definitions.Items.{try_items, until_next, unless_exit, until_exit, each_record, run_records, has_rule, begin_items, end_item, end_items, run_before_end, run_items}
 use Rattle.awk_semantics.specs.definitions.Meaning.{StartValues, start_state, assign_all, assign_and_run, with_end, run_program, outcome_of, outputs_from, outputs_after, meaning_of}
-use Rattle.awk_pieces.specs.definitions.Pieceable.{tells_apart, leaves_records, knows, is_rule_for_itself, are_rules_for_themselves, IsPieceable}
+use Rattle.awk_pieces.specs.definitions.Pieceable.{tells_apart, leaves_records, is_setting_of_awk, names_set_in_rules, is_own, knows, is_rule_for_itself, are_rules_for_themselves, IsPieceable}
 use Rattle.awk_pieces.specs.definitions.LawOfPieces.{EndsLine, Gives, StartsPlainly, Prints, LawOfPieces}
-use Rattle.awk_pieces.proofs.Alike.{Outer, Sorts, Values, state_on, AgreeOn, ArePlain, plain_append, behind, Covers, Alike}
+use Rattle.awk_pieces.proofs.Alike.{Outer, Names, Sorts, SetsApart, Values, state_on, AgreeOn, ArePlain, plain_append, behind, Covers, Alike}
 use Rattle.awk_pieces.proofs.ReadsAlike.{left_true, right_true}
-use Rattle.awk_pieces.proofs.RulesAlike.{items_alike, until_alike}
-use Rattle.awk_pieces.proofs.BeginsAlike.{all_names, first_sorts, leaves_pre, own_names, assign_all_alike, begin_items_alike}
+use Rattle.awk_pieces.proofs.RulesAlike.{Knows, items_alike, until_alike}
+use Rattle.awk_pieces.proofs.BeginsAlike.{all_names, first_sorts, set_apart, leaves_pre, own_names, assign_all_alike, begin_items_alike}
 use Rattle.awk_pieces.proofs.LinesJoined.{newline}
 use Rattle.awk_pieces.proofs.RecordsFound.{reading, over, Counts, record_over}
 use Rattle.awk_pieces.proofs.FirstRecord.{unread, with_opening, opened, OpensLines, first_opens}
@@ -96,32 +97,59 @@ settled base o p v w k d (Err halt.Next) t effects y c well = absurd well
 settled base o p v w k d (Err halt.OutOfSteps) t effects y c well = absurd well
 settled base o p v w k d (Err (halt.Fault f)) t effects y c well = absurd well
 
--- the rules change no variable, and both sides know all but the counters
-abbrev rule_sorts : Sorts
-rule_sorts = record { kept = all_names; shared = knows; shows = true }
+-- the rules change no variable but those of the record, and both sides know all but these and the counters
+abbrev rule_sorts : (own : Names) → Sorts
+rule_sorts own = record { kept = λ x. not (own x); shared = knows own; own = own; shows = true }
 
 pub no_true : (b : Bool) → b ≡ true → not b ≡ true → ⊥
 no_true true e f = cc
 no_true false e f = cc
 
-uncounted : (name x : List ℕ) → tells_apart name ≡ true → knows x ≡ true → bytes_eq name x ≡ false
-uncounted name x counter known = elim (cases_Bool (bytes_eq name x)) [
-  | inl same ↦ absurd (no_true (tells_apart x) (ap tells_apart (sym ((bytes_eq-Decides name x).0 same)) ∙ counter) known)
+neither : (a b : Bool) → not (a || b) ≡ true → (not a ≡ true) × (not b ≡ true)
+neither true b e = absurd (cc)
+neither false true e = absurd (cc)
+neither false false e = (refl, refl)
+
+-- awk's own variables aren't among those of the record
+not_both : (a b : Bool) → b ≡ false → not (a && b) ≡ true
+not_both true true e = absurd (cc)
+not_both true false e = refl
+not_both false b e = refl
+
+not_own : (names : List (List ℕ)) (x : List ℕ) → not (tells_apart x || is_setting_of_awk x) ≡ false → not (is_own names x) ≡ true
+not_own names x = not_both (has_name names x) (not (tells_apart x || is_setting_of_awk x))
+
+uncounted : (own : Names) (name x : List ℕ) → tells_apart name ≡ true → knows own x ≡ true → bytes_eq name x ≡ false
+uncounted own name x counter known = elim (cases_Bool (bytes_eq name x)) [
+  | inl same ↦ absurd (no_true (tells_apart x) (ap tells_apart (sym ((bytes_eq-Decides name x).0 same)) ∙ counter) (neither (tells_apart x) (own x) known).0)
   | inr other ↦ other
 ]
 
-rules_own : Owns rule_sorts
-rules_own = record {
-  prints = refl;
-  rs = refl;
-  argc = refl;
-  nr = refl;
-  fnr = refl;
-  shared_fs = refl;
-  shared_kept = λ x e. refl;
-  no_nr = λ x e. uncounted (codes "NR") x refl e;
-  no_fnr = λ x e. uncounted (codes "FNR") x refl e;
-}
+module _ (names : List (List ℕ)) where
+  rules_own : Owns (rule_sorts (is_own names))
+  rules_own = record {
+    prints = refl;
+    rs = not_own names (codes "RS") refl;
+    argc = not_own names (codes "ARGC") refl;
+    nr = not_own names (codes "NR") refl;
+    fnr = not_own names (codes "FNR") refl;
+    shared_fs = not_own names (codes "FS") refl;
+    shared_kept = λ x e. (neither (tells_apart x) (is_own names x) e).1;
+    no_nr = λ x e. uncounted (is_own names) (codes "NR") x refl e;
+    no_fnr = λ x e. uncounted (is_own names) (codes "FNR") x refl e;
+  }
+
+  rules_apart : SetsApart (rule_sorts (is_own names))
+  rules_apart = record {
+    count = λ x own. set_apart (λ z. not (tells_apart z || is_setting_of_awk z)) x (codes "NF") (right_true (has_name names x) _ own) refl;
+    kept = λ x z own kept. set_apart (is_own names) x z own kept;
+  }
+
+  rules_know : Knows (rule_sorts (is_own names)) (knows (is_own names))
+  rules_know = record {
+    within = λ x e. e;
+    owns = record { fs = not_own names (codes "FS") refl; rs = not_own names (codes "RS") refl; ofs = not_own names (codes "OFS") refl; ors = not_own names (codes "ORS") refl };
+  }
 
 module _ (items : List Item) (pieceable : IsPieceable items) (start : StartValues) (plainly : StartsPlainly start) (origin : Oracle) where
   abbrev base : State
@@ -149,8 +177,14 @@ module _ (items : List Item) (pieceable : IsPieceable items) (start : StartValue
   abbrev finish : ℕ → Out (Unit {0}) → Out (Unit {0})
   finish limit z = go_on (unless_exit z.result) (outside_calls z.state) z.effects (λ _. end_items (functions limit) items)
 
-  rules_alike : (f g : ℕ) → Alike rule_sorts rule_sorts.shared rule_sorts.shared (with_opening base) (with_opening base) (action f) (action g)
-  rules_alike f g = until_alike rule_sorts knows (λ x e. e) (record { fs = refl; rs = refl; ofs = refl; ors = refl }) refl (with_opening base) (functions f) (functions g) (items_alike rule_sorts knows (λ x e. e) (record { fs = refl; rs = refl; ofs = refl; ors = refl }) refl (with_opening base) (functions f) (functions g) 0 items pieceable)
+  abbrev names : List (List ℕ)
+  names = names_set_in_rules items
+
+  abbrev sorts : Sorts
+  sorts = rule_sorts (is_own names)
+
+  rules_alike : (f g : ℕ) → Alike sorts sorts.shared sorts.shared (with_opening base) (with_opening base) (action f) (action g)
+  rules_alike f g = until_alike sorts (rules_apart names) refl (with_opening base) (functions f) (functions g) sorts.shared (rules_know names) (items_alike sorts (rules_apart names) refl (with_opening base) (functions f) (functions g) sorts.shared (rules_know names) 0 items pieceable)
 
   -- a run before its records
   record Prepared (x : Oracle) (limit steps : ℕ) : Type 0 where
@@ -208,11 +242,11 @@ module _ (items : List Item) (pieceable : IsPieceable items) (start : StartValue
   prepare : (x y : Oracle) (limit limit' steps d : ℕ) → EndsWell (whole x limit steps).result → BothPrepared x y limit limit' steps d
   prepare x y limit limit' steps d well =
       let first = settled base (unread x) (unread y) first_values first_values steps d _ _ _ _ ((assign_all_alike leaves_records (λ x is. is) base base (own_names base) start.pre (leaves_pre start.pre plainly.assignments)).covers (unread x) (unread y) first_pair first_values first_values steps d (λ z e. refl)) (whole_assigned x limit steps well) in
-      let begun = settled base (unread x) (unread y) first.here first.there first.left d _ _ _ _ ((begin_items_alike base base (own_names base) (functions limit) (functions limit') knows items pieceable).covers (unread x) (unread y) first.pair first.here first.there first.left d first.agrees) (begins_well limit _ (items_well x limit steps first.pair first.here first.left first.is_here well)) in
+      let begun = settled base (unread x) (unread y) first.here first.there first.left d _ _ _ _ ((begin_items_alike base base (own_names base) (functions limit) (functions limit') (is_own names) sorts.shared items pieceable).covers (unread x) (unread y) first.pair first.here first.there first.left d first.agrees) (begins_well limit _ (items_well x limit steps first.pair first.here first.left first.is_here well)) in
       begun_prepared x y limit limit' steps d first begun
 
   -- behind the records nothing is done
-  end_item_is : (limit : ℕ) (x : Item) (s : State) → is_rule_for_itself knows x ≡ true → end_item (functions limit) x s ≡ gives (tt {0}) s
+  end_item_is : (limit : ℕ) (x : Item) (s : State) → is_rule_for_itself (is_own names) sorts.shared x ≡ true → end_item (functions limit) x s ≡ gives (tt {0}) s
   unfolding end_item lift
   end_item_is limit (Begin block) s is = refl
   end_item_is limit (Action block) s is = refl
@@ -221,10 +255,10 @@ module _ (items : List Item) (pieceable : IsPieceable items) (start : StartValue
   end_item_is limit (End block) s is = absurd (cc)
   end_item_is limit (Function name parameters block) s is = absurd (cc)
 
-  end_items_are : (limit : ℕ) (xs : List Item) (s : State) → are_rules_for_themselves knows xs ≡ true → end_items (functions limit) xs s ≡ gives (tt {0}) s
+  end_items_are : (limit : ℕ) (xs : List Item) (s : State) → are_rules_for_themselves (is_own names) sorts.shared xs ≡ true → end_items (functions limit) xs s ≡ gives (tt {0}) s
   unfolding end_items lift ◌>>=◌ go_on
   end_items_are limit [] s is = refl
-  end_items_are limit (x ∷ xs) s is = rw (end_item_is limit x s (left_true (is_rule_for_itself knows x) _ is), end_items_are limit xs s (right_true (is_rule_for_itself knows x) _ is)) refl
+  end_items_are limit (x ∷ xs) s is = rw (end_item_is limit x s (left_true (is_rule_for_itself (is_own names) sorts.shared x) _ is), end_items_are limit xs s (right_true (is_rule_for_itself (is_own names) sorts.shared x) _ is)) refl
 
   -- where the records end so
   finish_is : (limit : ℕ) (o : Outer) (pair : RecordPair) (values : Values) (left : ℕ) (effects : List Effect) → finish limit (record { result = Ok (tt {0}); state = state_on base o pair values left; effects = effects }) ≡ record { result = Ok (tt {0}); state = state_on base o pair values left; effects = effects }
@@ -272,7 +306,7 @@ module _ (items : List Item) (pieceable : IsPieceable items) (start : StartValue
     fnr = refl;
   }
 
-  opened_agrees : (v w : Values) → AgreeOn all_names v w → AgreeOn knows (opened v) (opened w)
+  opened_agrees : (v w : Values) → AgreeOn all_names v w → AgreeOn sorts.shared (opened v) (opened w)
   opened_agrees v w agrees z is = ap (λ (b : Value). cond (bytes_eq (codes "FNR") z) (value.Number (pos 0)) (cond (bytes_eq (codes "FILENAME") z) (value.Input []) b)) (agrees z refl)
 
   -- the records of a run over a text
@@ -311,10 +345,10 @@ module _ (items : List Item) (pieceable : IsPieceable items) (start : StartValue
     there_a turns left = lines of_both limit (a ++ b) p.theirs.pair (opened p.theirs.values) turns left
 
     abbrev PassedA : Type 0
-    PassedA = Passed rule_sorts rules_own (with_opening base) of_a of_both (action m) (action limit) (rules_alike m limit) b (opened p.theirs.values) da da here_a (there_a (suc p.mine.left + da) (p.mine.left + da))
+    PassedA = Passed sorts (rules_own names) (with_opening base) of_a of_both (action m) (action limit) (rules_alike m limit) b (opened p.theirs.values) da da here_a (there_a (suc p.mine.left + da) (p.mine.left + da))
 
     pass_a : EndsWell here_a.result → PassedA
-    pass_a well = passed rule_sorts rules_own (with_opening base) of_a of_both (action m) (action limit) (rules_alike m limit) (suc p.mine.left) da a b p.mine.pair p.theirs.pair (opened p.mine.values) (opened p.theirs.values) p.mine.left da 0 0
+    pass_a well = passed sorts (rules_own names) (with_opening base) of_a of_both (action m) (action limit) (rules_alike m limit) (suc p.mine.left) da a b p.mine.pair p.theirs.pair (opened p.mine.values) (opened p.theirs.values) p.mine.left da 0 0
         (opened_agrees p.mine.values p.theirs.values p.agrees) (counts_none p.mine.values p.mine.keeps) (counts_none p.theirs.values p.theirs.keeps) (inl ends) (omega arith) (omega arith) well
 
     -- the second one
@@ -328,15 +362,15 @@ module _ (items : List Item) (pieceable : IsPieceable items) (start : StartValue
       same_values : (z : List ℕ) → p.theirs.values z ≡ q.theirs.values z
       same_values z = ap (λ (s : State). s.variables z) (same_prepared of_both limit (m + da) (n + db) (to_a ∙ sym to_b) p.theirs q.theirs)
 
-      agrees_b : AgreeOn knows (opened q.mine.values) pa.theirs
+      agrees_b : AgreeOn sorts.shared (opened q.mine.values) pa.theirs
       agrees_b z is = pa.keeps z is ∙ (opened_agrees q.theirs.values p.theirs.values (λ x e. same_values x) z is ∙ opened_agrees q.mine.values q.theirs.values q.agrees z is)
 
       module _ (extra more : ℕ) (turns_are : suc q.mine.left + extra ≡ suc pa.turns + da) (steps_are : q.mine.left + more ≡ pa.left + da) where
         abbrev PassedB : Type 0
-        PassedB = Passed rule_sorts rules_own (with_opening base) of_b of_both (action n) (action limit) (rules_alike n limit) [] pa.theirs extra more here_b (there_b (b ++ []) (suc q.mine.left + extra) (q.mine.left + more))
+        PassedB = Passed sorts (rules_own names) (with_opening base) of_b of_both (action n) (action limit) (rules_alike n limit) [] pa.theirs extra more here_b (there_b (b ++ []) (suc q.mine.left + extra) (q.mine.left + more))
 
         pass_b : EndsWell here_b.result → PassedB
-        pass_b well = passed rule_sorts rules_own (with_opening base) of_b of_both (action n) (action limit) (rules_alike n limit) (suc q.mine.left) extra b [] q.mine.pair pa.other (opened q.mine.values) pa.theirs q.mine.left more 0 pa.count
+        pass_b well = passed sorts (rules_own names) (with_opening base) of_b of_both (action n) (action limit) (rules_alike n limit) (suc q.mine.left) extra b [] q.mine.pair pa.other (opened q.mine.values) pa.theirs q.mine.left more 0 pa.count
             agrees_b (counts_none q.mine.values q.mine.keeps) pa.counts (inr refl) (omega arith) (omega (arith, pa.fits)) well
 
         there_is : there_b b (suc pa.turns + da) (pa.left + da) ≡ there_b (b ++ []) (suc q.mine.left + extra) (q.mine.left + more)

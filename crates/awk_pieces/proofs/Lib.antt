@@ -3,6 +3,7 @@ pub mod BeginsAlike
 pub mod CallsAlike
 pub mod ExpressionsAlike
 pub mod FirstRecord
+pub mod Known
 pub mod LawOfPieces
 pub mod LinesJoined
 pub mod PlacesAlike

@@ -1,5 +1,6 @@
 -- Places in the record, and what is stored there, do alike.
-use Rattle.std.proofs.Common.{◌≡◌, ℕ, zero, suc, ◌+◌, true, List, Option, Some, None, Result, Ok, Err, pos, negsuc, ℤ, refl, le_refl, codes, bytes_eq}
+use Rattle.std.proofs.Common.{◌≡◌, inl, inr, ℕ, zero, suc, ◌+◌, Bool, true, false, ◌&&◌, ◌||◌, List, Option, Some, None, Result, Ok, Err, pos, negsuc, ℤ, refl, sym, ap, ◌∙◌, le_refl, codes, bytes_eq, cond}
+use Rattle.std.proofs.lemmas.Bool.{cases_Bool, cond-false}
 use Rattle.awk_value.specs.declared.value.Value.{Value}
 use Rattle.awk_value.specs.declared.value.Value.TheVariants as value
 use Rattle.awk_value.specs.Values.{str_of}
@@ -11,20 +12,60 @@ use Rattle.awk_semantics.specs.declared.halt.Halt.TheVariants as halt
 use Rattle.awk_semantics.specs.definitions.State.{State, Run}
 use Rattle.awk_semantics.specs.definitions.Faults.{of_record}
 use Rattle.awk_semantics.specs.definitions.Operators.{applied, by_one, one}
-use Rattle.awk_semantics.specs.definitions.Primitives.{set_record, set_current, set_count, set_field, put_outside, put}
+use Rattle.awk_kinds.specs.Variables.{with_value, is_refused}
+use Rattle.awk_semantics.specs.definitions.Primitives.{set_record, set_current, set_count, set_field, put_unless, put_outside, put}
 use Rattle.awk_semantics.specs.definitions.Places.{Place, AName, AnElement, AField, read_place, store, assign, assign_by, post_increment}
-use Rattle.awk_pieces.proofs.Alike.{Outer, Names, OwnsSeparators, Sorts, Values, state_on, AgreeOn, shown_none, Covers, then_alike}
+use Rattle.awk_pieces.specs.definitions.Pieceable.{also}
+use Rattle.awk_pieces.proofs.Alike.{Outer, Names, OwnsSeparators, Sorts, SetsApart, Values, state_on, AgreeOn, shown_none, Covers, Alike, IsWithin, alike_within, then_alike}
 use Rattle.awk_pieces.proofs.ReadsAlike.{Reads, lift_alike, ret_alike, name_alike, field_alike, number_alike}
 use Rattle.awk_pieces.proofs.RecordsFound.{rule_for}
 use Rattle.awk_pieces.proofs.ValuesAndFaults.{IsValueOrFault, of_record_faults, applied_faults}
 
--- a field, or the name of their number, which is known
-abbrev pub IsOfRecord : Names → Place → Type 0
-IsOfRecord known (AField n) = Unit {0}
-IsOfRecord known (AName x) = (bytes_eq x (codes "NF") ≡ true) × (known x ≡ true)
-IsOfRecord known (AnElement x key) = ⊥
+-- a field, or a name that is known: that of their number, or of a variable of the record
+abbrev pub IsOfRecord : Sorts → Names → Place → Type 0
+IsOfRecord sorts known (AField n) = Unit {0}
+IsOfRecord sorts known (AName x) = ((bytes_eq x (codes "NF") || sorts.own x) ≡ true) × (known x ≡ true)
+IsOfRecord sorts known (AnElement x key) = ⊥
 
-module _ (sorts : Sorts) (known : Names) (base base' : State) (owns : OwnsSeparators known) where
+pub or_else : (a b : Bool) → (a || b) ≡ true → a ≡ false → b ≡ true
+or_else true b e f = absurd (cc)
+or_else false b e f = e
+
+or_right : (a b : Bool) → b ≡ true → (a || b) ≡ true
+or_right true b e = refl
+or_right false b e = e
+
+-- a name that was known before another one is
+pub known_before : (a b c : Bool) → b ≡ false → ((a && b) || c) ≡ true → c ≡ true
+known_before true true c other is = absurd (cc)
+known_before true false c other is = is
+known_before false b c other is = is
+
+pub within_also : (own known : Names) (name : Option (List ℕ)) → IsWithin known (also own name known)
+within_also own known None z is = is
+within_also own known (Some x) z is = or_right (own x && bytes_eq x z) (known z) is
+
+set_agrees : (own known : Names) (x : List ℕ) (a : Value) (v w : Values) → AgreeOn known v w → AgreeOn (also own (Some x) known) (with_value v x a) (with_value w x a)
+set_agrees own known x a v w agrees z is = elim (cases_Bool (bytes_eq x z)) [
+  | inl same ↦ rw same refl
+  | inr other ↦ ap (λ (b : Value). cond (bytes_eq x z) a b) (agrees z (known_before (own x) (bytes_eq x z) (known z) other is))
+]
+
+module _ (sorts : Sorts) (apart : SetsApart sorts) (known : Names) (base base' : State) where
+  put_own_covers : (refused : Bool) (x : List ℕ) (a : Value) (o p : Outer) (c : RecordPair) (v w : Values) (k d : ℕ) → sorts.own x ≡ true → AgreeOn known v w → Covers sorts (also sorts.own (Some x) known) base base' o p v w k d (put_unless refused x a (state_on base o c v k)).result (put_unless refused x a (state_on base o c v k)) (put_unless refused x a (state_on base' p c w (k + d)))
+  put_own_covers true x a o p c v w k d own agrees = tt
+  put_own_covers false x a o p c v w k d own agrees = record { pair = c; left = k; here = with_value v x a; there = with_value w x a; agrees = set_agrees sorts.own known x a v w agrees; keeps = λ z kept. cond-false _ _ _ (apart.kept x z own kept); keeps_there = λ z kept. cond-false _ _ _ (apart.kept x z own kept); falls = le_refl _; is_here = refl; is_there = refl; plain = shown_none sorts.shows }
+
+  put_own_outside : (x : List ℕ) (a : Value) → sorts.own x ≡ true → Alike sorts known (also sorts.own (Some x) known) base base' (put_outside x a) (put_outside x a)
+  unfolding put_outside
+  put_own_outside x a own = record { covers = λ o p c v w k d agrees. rw (apart.count x own) (put_own_covers (is_refused x a) x a o p c v w k d own agrees) }
+
+  -- a variable of the record is known behind its assignment
+  pub put_own : (x : List ℕ) (a : Value) → sorts.own x ≡ true → Alike sorts known (also sorts.own (Some x) known) base base' (put x a) (put x a)
+  unfolding put
+  put_own x a own = record { covers = λ o p c v w k d agrees. (put_own_outside x a own).covers o p c v w k d agrees }
+
+module _ (sorts : Sorts) (apart : SetsApart sorts) (known : Names) (base base' : State) (owns : OwnsSeparators known) where
   abbrev Stores : {A : Type 0} → Run A → Run A → Type 0
   Stores m n = Reads sorts known base base' m n
 
@@ -57,28 +98,31 @@ module _ (sorts : Sorts) (known : Names) (base base' : State) (owns : OwnsSepara
   unfolding put
   put_count_alike x a is = record { covers = λ o p c v w k d agrees. (put_count_outside x a is).covers o p c v w k d agrees }
 
-  pub store_alike : (q : Place) (a : Value) → IsOfRecord known q → Stores (store q a) (store q a)
+  pub store_alike : (q : Place) (a : Value) → IsOfRecord sorts known q → Stores (store q a) (store q a)
   unfolding store
   store_alike (AField n) a is = set_field_alike n a
-  store_alike (AName x) a is = put_count_alike x a is.0
+  store_alike (AName x) a is = elim (cases_Bool (bytes_eq x (codes "NF"))) [
+    | inl count ↦ put_count_alike x a count
+    | inr other ↦ alike_within (within_also sorts.own known (Some x)) (put_own sorts apart known base base' x a (or_else _ _ is.0 other))
+  ]
   store_alike (AnElement x key) a is = absurd is
 
-  pub read_place_alike : (q : Place) → IsOfRecord known q → Stores (read_place q) (read_place q)
+  pub read_place_alike : (q : Place) → IsOfRecord sorts known q → Stores (read_place q) (read_place q)
   unfolding read_place
   read_place_alike (AField n) is = field_alike sorts known base base' n
   read_place_alike (AName x) is = name_alike sorts known base base' x is.1
   read_place_alike (AnElement x key) is = absurd is
 
-  assign_alike : (q : Place) (a : Value) → IsOfRecord known q → Stores (assign q a) (assign q a)
+  assign_alike : (q : Place) (a : Value) → IsOfRecord sorts known q → Stores (assign q a) (assign q a)
   unfolding assign
   assign_alike q a is = then_alike _ _ (store_alike q a is) (λ _. read_place_alike q is)
 
-  pub assign_by_alike : (c : Option Operator) (q : Place) (a : Value) → IsOfRecord known q → Stores (assign_by c q a) (assign_by c q a)
+  pub assign_by_alike : (c : Option Operator) (q : Place) (a : Value) → IsOfRecord sorts known q → Stores (assign_by c q a) (assign_by c q a)
   unfolding assign_by
   assign_by_alike None q a is = assign_alike q a is
   assign_by_alike (Some c) q a is = then_alike _ _ (read_place_alike q is) (λ old. then_alike _ _ (lift_alike sorts known base base' (applied c old a) (applied_faults c old a)) (λ b. assign_alike q b is))
 
-  pub post_increment_alike : (c : IncrementOperator) (q : Place) → IsOfRecord known q → Stores (post_increment c q) (post_increment c q)
+  pub post_increment_alike : (c : IncrementOperator) (q : Place) → IsOfRecord sorts known q → Stores (post_increment c q) (post_increment c q)
   unfolding post_increment
   post_increment_alike c q is = then_alike _ _ (read_place_alike q is) (λ old. then_alike _ _ (number_alike sorts known base base' old) (λ n.
       then_alike _ _ (lift_alike sorts known base base' (applied (by_one c) (value.Number n) one) (applied_faults (by_one c) (value.Number n) one)) (λ a. then_alike _ _ (store_alike q a is) (λ _. ret_alike sorts known base base' _))))

@@ -1,30 +1,30 @@
 -- Rules that treat each record for itself do alike on it.
-use Rattle.std.proofs.Common.{◌≡◌, ℕ, suc, ◌+◌, Bool, true, List, [], ◌∷◌, ◌++◌, Result, Ok, Err, refl, sym, ap, le_refl, subst, codes}
+use Rattle.std.proofs.Common.{◌≡◌, ℕ, suc, ◌+◌, Bool, true, List, [], ◌∷◌, ◌++◌, Result, Ok, Err, refl, sym, ap, le_refl, subst, arith, codes, inl, inr, zero, false, ◌&&◌, ◌||◌, if◌then◌else◌, Option, Some, None, bytes_eq}
+use Rattle.std.proofs.lemmas.Bool.{cases_Bool}
+use Rattle.std.proofs.lemmas.Slice.Eq.{bytes_eq-Decides}
 use Rattle.awk_value.specs.declared.value.Value.{Value}
 use Rattle.awk_value.specs.Values.{str_of}
+use Rattle.awk_lex.specs.declared.token.AssignmentOperator.{AssignmentOperator}
+use Rattle.awk_lex.specs.declared.token.AssignmentOperator.TheVariants as assignment
 use Rattle.awk_grammar.specs.declared.tree.PrintForm.{PrintForm}
 use Rattle.awk_grammar.specs.declared.tree.PrintForm.TheVariants as form
-use Rattle.awk_grammar.specs.Tree.{Expr, Exprs, Nil, Cons, PrintList, Bare, Parenthesized, Output, Standard, Redirected, SimpleStatement, Expression, Print, Delete, DeleteAll, Next, NextFile, Break, Continue, Exit, Return, Statement, Empty, Simple, Block, If, IfElse, While, Do, ForIn, For, Statements, NoMore, Then, Pattern, Single, Range, Item, Begin, End, Action, PatternAction, PatternOnly, Function}
+use Rattle.awk_grammar.specs.Tree.{Expr, Exprs, Nil, Cons, PrintList, Bare, Parenthesized, Output, Standard, Redirected, SimpleStatement, Expression, Print, Delete, DeleteAll, Next, NextFile, Break, Continue, Exit, Return, Statement, Empty, Simple, Block, If, IfElse, While, Do, ForIn, For, Statements, NoMore, Then, Pattern, Single, Range, Item, Begin, End, Action, PatternAction, PatternOnly, Function, Number, String, Ere, Name, Element, Field, Group, Call, BuiltIn, Length, PreIncrement, PostIncrement, Getline, PipedGetline, Unary, Binary, Membership, ListMembership, Conditional, Assign, OptionalExpr, NoExpr, AnExpr, OptionalSimple, NoSimple, ASimple}
 use Rattle.awk_semantics.specs.declared.flow.Flow.{Flow}
 use Rattle.awk_semantics.specs.declared.flow.Flow.TheVariants as flow
 use Rattle.awk_semantics.specs.declared.halt.Halt.{Halt}
 use Rattle.awk_semantics.specs.declared.halt.Halt.TheVariants as halt
 use Rattle.awk_semantics.specs.definitions.State.{Effect, Printed, State, Out, Run, go_on, ◌>>=◌, lift, ret}
 use Rattle.awk_semantics.specs.definitions.Operators.{line_of}
-use Rattle.awk_semantics.specs.definitions.Primitives.{print_bytes, print_line, format_values, outside_calls}
-use Rattle.awk_semantics.specs.definitions.Semantics.{Functions, eval, eval_all, printed_values, target_of, print_by, print, begin_test, exec_simple, pass_on, exec, exec_all}
+use Rattle.awk_semantics.specs.definitions.Primitives.{print_bytes, print_line, format_values, outside_calls, read_name}
+use Rattle.awk_semantics.specs.definitions.Places.{read_place, store, assign, assign_by}
+use Rattle.awk_semantics.specs.definitions.Semantics.{Functions, eval, eval_all, printed_values, target_of, print_by, print, begin_test, exec_simple, pass_on, exec, exec_all, goes_on, exec_part, turn, ending, unless_ended, repeat_within, repeat}
 use Rattle.awk_semantics.specs.definitions.Items.{run_action, selects, print_record, try_item, try_items, unless_next, until_next}
-use Rattle.awk_pieces.specs.definitions.Pieceable.{keeps_to_record, all_keep_to_record, list_keeps_to_record, is_standard, is_simple_for_itself, is_for_itself, are_for_themselves, pattern_keeps_to_record, is_rule_for_itself, are_rules_for_themselves}
-use Rattle.awk_pieces.proofs.Alike.{Outer, Names, OwnsSeparators, Sorts, Values, state_on, own_kinds, ArePlain, AreShown, shown_none, Same, Covers, Alike, then_alike}
-use Rattle.awk_pieces.proofs.ReadsAlike.{left_true, right_true, unmoved, lift_alike, ret_alike, spend_alike, text_alike, tested_alike, choose_alike}
+use Rattle.awk_pieces.specs.definitions.Pieceable.{keeps_to_record, all_keep_to_record, list_keeps_to_record, is_standard, is_simple_for_itself, is_for_itself, are_for_themselves, pattern_keeps_to_record, is_rule_for_itself, are_rules_for_themselves, is_plain, is_of_record, is_own_place, may_keep_to_record, sets_own, is_part_for_itself, name_of, name_set, name_set_by, name_set_first, also, name_behind, behind}
+use Rattle.awk_pieces.proofs.Alike.{Outer, Names, OwnsSeparators, Sorts, Values, state_on, own_kinds, ArePlain, AreShown, shown_none, Same, Covers, Alike, then_alike, SetsApart, IsWithin, same_within, alike_within}
+use Rattle.awk_pieces.proofs.ReadsAlike.{left_true, right_true, unmoved, lift_alike, ret_alike, spend_alike, text_alike, tested_alike, choose_alike, name_alike}
+use Rattle.awk_pieces.proofs.PlacesAlike.{or_else, known_before, within_also, put_own}
 use Rattle.awk_pieces.proofs.ExpressionsAlike.{expression_alike}
 use Rattle.awk_pieces.proofs.ValuesAndFaults.{format_faults}
-
-abbrev pub IsWithin : Names → Names → Type 0
-IsWithin kept known = (x : List ℕ) → kept x ≡ true → known x ≡ true
-
-pub same_within : {A : Type 0} {sorts : Sorts} {known : Names} {base base' : State} {o p : Outer} {v w : Values} {k d : ℕ} {x y : Out A} → IsWithin sorts.shared known → Same sorts known base base' o p v w k d x y → Same sorts sorts.shared base base' o p v w k d x y
-same_within within c = record { pair = c.pair; left = c.left; here = c.here; there = c.there; agrees = λ x e. c.agrees x (within x e); keeps = c.keeps; keeps_there = c.keeps_there; falls = c.falls; is_here = c.is_here; is_there = c.is_there; plain = c.plain }
 
 -- what ends a record
 abbrev as_ended : Out (Unit {0}) → Out (Unit {0})
@@ -40,131 +40,262 @@ ended_covers sorts known base base' o p v w k d (Err halt.OutOfSteps) t effects 
 ended_covers sorts known base base' o p v w k d (Err halt.Next) t effects y within c = ended_same _ y c
 ended_covers sorts known base base' o p v w k d (Err halt.Exit) t effects y within c = absurd c
 
-module _ (sorts : Sorts) (known : Names) (within : IsWithin sorts.shared known) (owns : OwnsSeparators known) (prints : sorts.shows ≡ true) (base : State) (f g : Functions) where
-  abbrev pub Does : {A : Type 0} → Run A → Run A → Type 0
-  Does m n = Alike sorts known known base base m n
+held_itself : (x : List ℕ) → bytes_eq x x ≡ true
+held_itself x = (bytes_eq-Decides x x).1 refl
 
-  abbrev reads : (e : Expr) → keeps_to_record known e ≡ true → Does (eval f e) (eval g e)
-  reads e is = expression_alike sorts known base base (own_kinds known base) owns f g e is
+-- the names that are known: all that both sides share, and those by which a record is cut and made
+pub record Knows (sorts : Sorts) (known : Names) : Type 0 where
+  pub within : IsWithin sorts.shared known
+  pub owns : OwnsSeparators known
 
+knows_more : (sorts : Sorts) (known more : Names) → IsWithin known more → Knows sorts known → Knows sorts more
+knows_more sorts known more grows knows = record {
+  within = λ x is. grows x (knows.within x is);
+  owns = record { fs = grows (codes "FS") knows.owns.fs; rs = grows (codes "RS") knows.owns.rs; ofs = grows (codes "OFS") knows.owns.ofs; ors = grows (codes "ORS") knows.owns.ors };
+}
+
+-- what is known before a statement is known behind it
+grows : (own known : Names) (s : Statement) → IsWithin known (behind own s known)
+grows own known s = within_also own known (name_behind s)
+
+-- a name that was known already
+known_already : (own known : Names) (plain : Bool) (x : List ℕ) → known x ≡ true → IsWithin (also own (if plain then Some x else None) known) known
+known_already own known false x is z known' = known'
+known_already own known true x is z known' = elim (cases_Bool (bytes_eq x z)) [
+  | inl same ↦ subst (λ (y : List ℕ). known y ≡ true) ((bytes_eq-Decides x z).0 same) is
+  | inr other ↦ known_before (own x) (bytes_eq x z) (known z) other known'
+]
+
+none_set : (own known : Names) (plain : Bool) → IsWithin (also own (if plain then None else None) known) known
+none_set own known false z is = is
+none_set own known true z is = is
+
+place_kept : (own known : Names) (c : AssignmentOperator) (p e : Expr) → keeps_to_record own known p ≡ true → IsWithin (also own (name_set (Assign c p e)) known) known
+place_kept own known c (Name x) e is = known_already own known (is_plain c) x is
+place_kept own known c p e is = none_set own known (is_plain c)
+
+-- an expression that keeps to the record sets no name that isn't known
+names_kept : (own known : Names) (e : Expr) → keeps_to_record own known e ≡ true → IsWithin (also own (name_set e) known) known
+names_kept own known (Assign c p e) is = place_kept own known c p e (left_true (keeps_to_record own known p) _ (right_true (is_of_record own p) _ is))
+names_kept own known e is = λ z k. k
+
+module _ (sorts : Sorts) (apart : SetsApart sorts) (prints : sorts.shows ≡ true) (base : State) (f g : Functions) where
   shown : (effects : List Effect) → ArePlain effects → AreShown sorts.shows effects
   shown effects plain = subst (λ (b : Bool). AreShown b effects) (sym prints) plain
 
-  values_alike : (front : List Value) (es : Exprs) → all_keep_to_record known es ≡ true → Does (eval_all f front es) (eval_all g front es)
-  unfolding eval_all
-  values_alike front Nil is = ret_alike sorts known base base front
-  values_alike front (Cons e es) is = then_alike _ _ (reads e (left_true (keeps_to_record known e) _ is)) (λ v. values_alike (front ++ v ∷ []) es (right_true (keeps_to_record known e) _ is))
+  module _ (known : Names) (knows : Knows sorts known) where
+    abbrev pub Does : {A : Type 0} → Run A → Run A → Type 0
+    Does m n = Alike sorts known known base base m n
 
-  printed_alike : (list : PrintList) → list_keeps_to_record known list ≡ true → Does (printed_values f list) (printed_values g list)
-  unfolding printed_values
-  printed_alike (Bare es) is = values_alike [] es is
-  printed_alike (Parenthesized es) is = values_alike [] es is
+    abbrev reads : (e : Expr) → keeps_to_record sorts.own known e ≡ true → Does (eval f e) (eval g e)
+    reads e is = expression_alike sorts apart known base base (own_kinds known base) knows.owns f g e is
 
-  line_alike : (vs : List Value) → Does (print_line 0 vs) (print_line 0 vs)
-  unfolding print_line print_bytes
-  line_alike vs = record { covers = λ o p c v w k d agrees. rw (agrees (codes "OFS") owns.ofs, agrees (codes "ORS") owns.ors) (unmoved sorts known base base o p c v w k d (Printed 0 (line_of (str_of (v (codes "OFS"))) (str_of (v (codes "ORS"))) vs) ∷ []) (Ok tt) tt (shown _ (tt, tt)) agrees) }
+    values_alike : (front : List Value) (es : Exprs) → all_keep_to_record sorts.own known es ≡ true → Does (eval_all f front es) (eval_all g front es)
+    unfolding eval_all
+    values_alike front Nil is = ret_alike sorts known base base front
+    values_alike front (Cons e es) is = then_alike _ _ (reads e (left_true (keeps_to_record sorts.own known e) _ is)) (λ v. values_alike (front ++ v ∷ []) es (right_true (keeps_to_record sorts.own known e) _ is))
 
-  bytes_alike : (bytes : List ℕ) → Does (print_bytes 0 bytes) (print_bytes 0 bytes)
-  unfolding print_bytes
-  bytes_alike bytes = record { covers = λ o p c v w k d agrees. unmoved sorts known base base o p c v w k d (Printed 0 bytes ∷ []) (Ok tt) tt (shown _ (tt, tt)) agrees }
+    printed_alike : (list : PrintList) → list_keeps_to_record sorts.own known list ≡ true → Does (printed_values f list) (printed_values g list)
+    unfolding printed_values
+    printed_alike (Bare es) is = values_alike [] es is
+    printed_alike (Parenthesized es) is = values_alike [] es is
 
-  print_by_alike : (form : PrintForm) (vs : List Value) → Does (print_by f form 0 vs) (print_by g form 0 vs)
-  print_by_alike form.Print [] = then_alike _ _ (text_alike sorts known base base) (λ v. line_alike (v ∷ []))
-  print_by_alike form.Print (v ∷ vs) = line_alike (v ∷ vs)
-  print_by_alike form.Printf vs = then_alike _ _ (lift_alike sorts known base base (format_values vs) (format_faults vs)) (λ text. bytes_alike text)
+    line_alike : (vs : List Value) → Does (print_line 0 vs) (print_line 0 vs)
+    unfolding print_line print_bytes
+    line_alike vs = record { covers = λ o p c v w k d agrees. rw (agrees (codes "OFS") knows.owns.ofs, agrees (codes "ORS") knows.owns.ors) (unmoved sorts known base base o p c v w k d (Printed 0 (line_of (str_of (v (codes "OFS"))) (str_of (v (codes "ORS"))) vs) ∷ []) (Ok tt) tt (shown _ (tt, tt)) agrees) }
 
-  -- what goes on from a result that is had
-  pub from_result : {A B : Type 0} (a : A) (m n : A → Run B) → Does (m a) (n a) → Does (ret a >>= m) (ret a >>= n)
-  unfolding lift ◌>>=◌ go_on
-  from_result a m n h = record { covers = λ o p c v w k d agrees. h.covers o p c v w k d agrees }
+    bytes_alike : (bytes : List ℕ) → Does (print_bytes 0 bytes) (print_bytes 0 bytes)
+    unfolding print_bytes
+    bytes_alike bytes = record { covers = λ o p c v w k d agrees. unmoved sorts known base base o p c v w k d (Printed 0 bytes ∷ []) (Ok tt) tt (shown _ (tt, tt)) agrees }
 
-  target_alike : (output : Output) (m n : ℕ → Run (Unit {0})) → is_standard known output ≡ true → Does (m 0) (n 0) → Does (target_of f output >>= m) (target_of g output >>= n)
-  unfolding target_of
-  target_alike Standard m n is h = from_result 0 m n h
-  target_alike (Redirected way target) m n is h = absurd (cc)
+    print_by_alike : (form : PrintForm) (vs : List Value) → Does (print_by f form 0 vs) (print_by g form 0 vs)
+    print_by_alike form.Print [] = then_alike _ _ (text_alike sorts known base base) (λ v. line_alike (v ∷ []))
+    print_by_alike form.Print (v ∷ vs) = line_alike (v ∷ vs)
+    print_by_alike form.Printf vs = then_alike _ _ (lift_alike sorts known base base (format_values vs) (format_faults vs)) (λ text. bytes_alike text)
 
-  print_alike : (form : PrintForm) (list : PrintList) (output : Output) → list_keeps_to_record known list ≡ true → is_standard known output ≡ true → Does (print f form list output) (print g form list output)
-  unfolding print
-  print_alike form list output is standard = then_alike _ _ (spend_alike sorts known base base) (λ _. then_alike _ _ (printed_alike list is) (λ vs. target_alike output (λ n. print_by f form n vs) (λ n. print_by g form n vs) standard (print_by_alike form vs)))
+    -- what goes on from a result that is had
+    pub from_result : {A B : Type 0} (a : A) (m n : A → Run B) → Does (m a) (n a) → Does (ret a >>= m) (ret a >>= n)
+    unfolding lift ◌>>=◌ go_on
+    from_result a m n h = record { covers = λ o p c v w k d agrees. h.covers o p c v w k d agrees }
 
-  next_alike : Does {A = Flow} (lift (Err halt.Next)) (lift (Err halt.Next))
-  unfolding lift
-  next_alike = record { covers = λ o p c v w k d agrees. record { pair = c; left = k; here = v; there = w; agrees = λ x e. agrees x (within x e); keeps = λ x e. refl; keeps_there = λ x e. refl; falls = le_refl _; is_here = refl; is_there = refl; plain = shown_none sorts.shows } }
+    target_alike : (output : Output) (m n : ℕ → Run (Unit {0})) → is_standard output ≡ true → Does (m 0) (n 0) → Does (target_of f output >>= m) (target_of g output >>= n)
+    unfolding target_of
+    target_alike Standard m n is h = from_result 0 m n h
+    target_alike (Redirected way target) m n is h = absurd (cc)
 
-  simple_alike : (simple : SimpleStatement) → is_simple_for_itself known simple ≡ true → Does (exec_simple f simple) (exec_simple g simple)
-  unfolding exec_simple
-  simple_alike (Expression e) is = then_alike _ _ (spend_alike sorts known base base) (λ _. then_alike _ _ (reads e is) (λ v. ret_alike sorts known base base flow.Normal))
-  simple_alike (Print form list output) is = then_alike _ _ (print_alike form list output (left_true (list_keeps_to_record known list) _ is) (right_true (list_keeps_to_record known list) _ is)) (λ _. ret_alike sorts known base base flow.Normal)
-  simple_alike Next is = then_alike _ _ (spend_alike sorts known base base) (λ _. next_alike)
-  simple_alike (Delete x es) is = absurd (cc)
-  simple_alike (DeleteAll x) is = absurd (cc)
-  simple_alike NextFile is = absurd (cc)
-  simple_alike Break is = absurd (cc)
-  simple_alike Continue is = absurd (cc)
-  simple_alike (Exit e) is = absurd (cc)
-  simple_alike (Return e) is = absurd (cc)
+    print_alike : (form : PrintForm) (list : PrintList) (output : Output) → list_keeps_to_record sorts.own known list ≡ true → is_standard output ≡ true → Does (print f form list output) (print g form list output)
+    unfolding print
+    print_alike form list output is standard = then_alike _ _ (spend_alike sorts known base base) (λ _. then_alike _ _ (printed_alike list is) (λ vs. target_alike output (λ n. print_by f form n vs) (λ n. print_by g form n vs) standard (print_by_alike form vs)))
 
-  test_alike : (e : Expr) → keeps_to_record known e ≡ true → Does (begin_test f e) (begin_test g e)
-  unfolding begin_test
-  test_alike e is = then_alike _ _ (spend_alike sorts known base base) (λ _. tested_alike sorts known base base (reads e is))
+    next_alike : Does {A = Flow} (lift (Err halt.Next)) (lift (Err halt.Next))
+    unfolding lift
+    next_alike = record { covers = λ o p c v w k d agrees. record { pair = c; left = k; here = v; there = w; agrees = λ x e. agrees x (knows.within x e); keeps = λ x e. refl; keeps_there = λ x e. refl; falls = le_refl _; is_here = refl; is_there = refl; plain = shown_none sorts.shows } }
 
-  pass_alike : (c : Flow) {m n : Run Flow} → Does m n → Does (pass_on c m) (pass_on c n)
-  pass_alike flow.Normal h = h
-  pass_alike flow.Break h = ret_alike sorts known base base flow.Break
-  pass_alike flow.Continue h = ret_alike sorts known base base flow.Continue
-  pass_alike (flow.Return v) h = ret_alike sorts known base base (flow.Return v)
+    test_alike : (e : Expr) → keeps_to_record sorts.own known e ≡ true → Does (begin_test f e) (begin_test g e)
+    unfolding begin_test
+    test_alike e is = then_alike _ _ (spend_alike sorts known base base) (λ _. tested_alike sorts known base base (reads e is))
+
+    goes_on_alike : (c : OptionalExpr) → may_keep_to_record sorts.own known c ≡ true → Does (goes_on f c) (goes_on g c)
+    unfolding goes_on
+    goes_on_alike NoExpr is = ret_alike sorts known base base true
+    goes_on_alike (AnExpr e) is = tested_alike sorts known base base (reads e is)
+
+    -- loops
+
+    turn_alike : {m n : Run Flow} → Does m n → Does (turn m) (turn n)
+    unfolding turn
+    turn_alike h = then_alike _ _ (spend_alike sorts known base base) (λ _. then_alike _ _ h (λ c. ret_alike sorts known base base (ending c)))
+
+    unless_alike : (ended : Option Flow) {m n : Run Flow} → Does m n → Does (unless_ended ended m) (unless_ended ended n)
+    unless_alike None h = h
+    unless_alike (Some c) h = ret_alike sorts known base base c
+
+    repeat_within_alike : (i e : ℕ) {c c' : Run Bool} {s s' : Run Flow} {last last' : Run (Unit {0})} → Does c c' → Does s s' → Does last last' → Does (repeat_within i c s last) (repeat_within (i + e) c' s' last')
+    unfolding repeat_within lift
+    repeat_within_alike zero e c s last = record { covers = λ o p pair v w k d agrees. tt }
+    repeat_within_alike (suc i) e c s last =
+        let rest = repeat_within_alike i e c s last in
+        let more : suc i + e ≡ suc (i + e) = omega arith in
+        rw more (then_alike _ _ c (λ x. choose_alike sorts known base base x (then_alike _ _ (turn_alike s) (λ ended. unless_alike ended (then_alike _ _ last (λ _. rest)))) (ret_alike sorts known base base flow.Normal)))
+
+    repeat_alike : {c c' : Run Bool} {s s' : Run Flow} {last last' : Run (Unit {0})} → Does c c' → Does s s' → Does last last' → Does (repeat c s last) (repeat c' s' last')
+    unfolding repeat
+    repeat_alike {c = c} {c' = c'} {s = s} {s' = s'} {last = last} {last' = last'} condition body end = record {
+      covers = λ o p pair v w k d agrees.
+          let more : suc k + d ≡ suc (k + d) = omega arith in
+          (subst (λ (n : ℕ). Does (repeat_within (suc k) c s last) (repeat_within n c' s' last')) more (repeat_within_alike (suc k) d condition body end)).covers o p pair v w k d agrees;
+    }
+
+    -- statements that set a variable of the record
+
+    set_alike : (x : List ℕ) (e : Expr) → sorts.own x ≡ true → keeps_to_record sorts.own known e ≡ true → Alike sorts known (also sorts.own (Some x) known) base base (eval f (Assign assignment.Plain (Name x) e)) (eval g (Assign assignment.Plain (Name x) e))
+    unfolding eval assign_by assign store read_place lift ◌>>=◌ go_on
+    set_alike x e own is =
+        let behind_it = also sorts.own (Some x) known in
+        let held : behind_it x ≡ true = rw (own, held_itself x) refl in
+        let put_it = λ (a : Value). then_alike (λ _. read_name x) (λ _. read_name x) (put_own sorts apart known base base x a own) (λ _. name_alike sorts behind_it base base x held) in
+        record { covers = λ o p c v w k d agrees. (then_alike _ _ (reads e is) put_it).covers o p c v w k d agrees }
+
+    plain_set_alike : (c : AssignmentOperator) (x : List ℕ) (e : Expr) → is_plain c ≡ true → sorts.own x ≡ true → keeps_to_record sorts.own known e ≡ true → Alike sorts known (also sorts.own (name_set (Assign c (Name x) e)) known) base base (eval f (Assign c (Name x) e)) (eval g (Assign c (Name x) e))
+    plain_set_alike assignment.Plain x e plain own keeps = set_alike x e own keeps
+    plain_set_alike assignment.Add x e plain own keeps = absurd (cc)
+    plain_set_alike assignment.Subtract x e plain own keeps = absurd (cc)
+    plain_set_alike assignment.Multiply x e plain own keeps = absurd (cc)
+    plain_set_alike assignment.Divide x e plain own keeps = absurd (cc)
+    plain_set_alike assignment.Remainder x e plain own keeps = absurd (cc)
+    plain_set_alike assignment.Power x e plain own keeps = absurd (cc)
+
+    place_set_alike : (c : AssignmentOperator) (place e : Expr) → is_plain c ≡ true → is_own_place sorts.own place ≡ true → keeps_to_record sorts.own known e ≡ true → Alike sorts known (also sorts.own (name_set (Assign c place e)) known) base base (eval f (Assign c place e)) (eval g (Assign c place e))
+    place_set_alike c (Name x) e plain own keeps = plain_set_alike c x e plain own keeps
+    place_set_alike c place e plain own keeps = absurd (cc)
+
+    own_set_alike : (e : Expr) → sets_own sorts.own known e ≡ true → Alike sorts known (also sorts.own (name_set e) known) base base (eval f e) (eval g e)
+    own_set_alike (Assign c place e) is =
+        let both = right_true (is_plain c) _ is in
+        place_set_alike c place e (left_true (is_plain c) _ is) (left_true (is_own_place sorts.own place) _ both) (right_true (is_own_place sorts.own place) _ both)
+    own_set_alike e is = absurd (cc)
+
+    statement_alike : (e : Expr) → (sets_own sorts.own known e || keeps_to_record sorts.own known e) ≡ true → Alike sorts known (also sorts.own (name_set e) known) base base (eval f e) (eval g e)
+    statement_alike e is = elim (cases_Bool (sets_own sorts.own known e)) [
+      | inl sets ↦ own_set_alike e sets
+      | inr other ↦ let keeps = or_else _ _ is other in alike_within (names_kept sorts.own known e keeps) (reads e keeps)
+    ]
+
+    simple_alike : (simple : SimpleStatement) → is_simple_for_itself sorts.own known simple ≡ true → Alike sorts known (also sorts.own (name_set_by simple) known) base base (exec_simple f simple) (exec_simple g simple)
+    unfolding exec_simple
+    simple_alike (Expression e) is = then_alike _ _ (spend_alike sorts known base base) (λ _. then_alike _ _ (statement_alike e is) (λ v. ret_alike sorts (also sorts.own (name_set e) known) base base flow.Normal))
+    simple_alike (Print form list output) is = then_alike _ _ (print_alike form list output (left_true (list_keeps_to_record sorts.own known list) _ is) (right_true (list_keeps_to_record sorts.own known list) _ is)) (λ _. ret_alike sorts known base base flow.Normal)
+    simple_alike Next is = then_alike _ _ (spend_alike sorts known base base) (λ _. next_alike)
+    simple_alike Break is = then_alike _ _ (spend_alike sorts known base base) (λ _. ret_alike sorts known base base flow.Break)
+    simple_alike Continue is = then_alike _ _ (spend_alike sorts known base base) (λ _. ret_alike sorts known base base flow.Continue)
+    simple_alike (Delete x es) is = absurd (cc)
+    simple_alike (DeleteAll x) is = absurd (cc)
+    simple_alike NextFile is = absurd (cc)
+    simple_alike (Exit e) is = absurd (cc)
+    simple_alike (Return e) is = absurd (cc)
+
+    part_alike : (first : OptionalSimple) → is_part_for_itself sorts.own known first ≡ true → Alike sorts known (also sorts.own (name_set_first first) known) base base (exec_part f first) (exec_part g first)
+    unfolding exec_part
+    part_alike NoSimple is = ret_alike sorts known base base tt
+    part_alike (ASimple simple) is = then_alike _ _ (simple_alike simple is) (λ c. ret_alike sorts (also sorts.own (name_set_by simple) known) base base tt)
+
+    -- what follows a statement, where more was known behind that
+    pass_alike : (c : Flow) {more : Names} {m n : Run Flow} → IsWithin known more → Alike sorts more more base base m n → Alike sorts more known base base (pass_on c m) (pass_on c n)
+    pass_alike flow.Normal grows h = alike_within grows h
+    pass_alike flow.Break {more = more} grows h = alike_within grows (ret_alike sorts more base base flow.Break)
+    pass_alike flow.Continue {more = more} grows h = alike_within grows (ret_alike sorts more base base flow.Continue)
+    pass_alike (flow.Return v) {more = more} grows h = alike_within grows (ret_alike sorts more base base (flow.Return v))
 
   mutual
     unfolding exec
 
-    pub exec_alike : (s : Statement) → is_for_itself known s ≡ true → Does (exec f s) (exec g s)
-    exec_alike Empty is = ret_alike sorts known base base flow.Normal
-    exec_alike (Simple simple) is = simple_alike simple is
-    exec_alike (Block all) is = exec_all_alike all is
-    exec_alike (If c s) is =
-        let body = exec_alike s (right_true (keeps_to_record known c) _ is) in
-        then_alike _ _ (test_alike c (left_true (keeps_to_record known c) _ is)) (λ x. choose_alike sorts known base base x body (ret_alike sorts known base base flow.Normal))
-    exec_alike (IfElse c s other) is =
-        let both = right_true (keeps_to_record known c) _ is in
-        let body = exec_alike s (left_true (is_for_itself known s) _ both) in
-        let rest = exec_alike other (right_true (is_for_itself known s) _ both) in
-        then_alike _ _ (test_alike c (left_true (keeps_to_record known c) _ is)) (λ x. choose_alike sorts known base base x body rest)
-    exec_alike (While c s) is = absurd (cc)
-    exec_alike (Do s c) is = absurd (cc)
-    exec_alike (ForIn x array s) is = absurd (cc)
-    exec_alike (For first c last s) is = absurd (cc)
+    pub exec_alike : (known : Names) (knows : Knows sorts known) (s : Statement) → is_for_itself sorts.own known s ≡ true → Alike sorts known (behind sorts.own s known) base base (exec f s) (exec g s)
+    exec_alike known knows Empty is = ret_alike sorts known base base flow.Normal
+    exec_alike known knows (Simple simple) is = simple_alike known knows simple is
+    exec_alike known knows (Block all) is = exec_all_alike known knows all is
+    exec_alike known knows (If c s) is =
+        let body = alike_within (grows sorts.own known s) (exec_alike known knows s (right_true (keeps_to_record sorts.own known c) _ is)) in
+        then_alike _ _ (test_alike known knows c (left_true (keeps_to_record sorts.own known c) _ is)) (λ x. choose_alike sorts known base base x body (ret_alike sorts known base base flow.Normal))
+    exec_alike known knows (IfElse c s other) is =
+        let both = right_true (keeps_to_record sorts.own known c) _ is in
+        let body = alike_within (grows sorts.own known s) (exec_alike known knows s (left_true (is_for_itself sorts.own known s) _ both)) in
+        let rest = alike_within (grows sorts.own known other) (exec_alike known knows other (right_true (is_for_itself sorts.own known s) _ both)) in
+        then_alike _ _ (test_alike known knows c (left_true (keeps_to_record sorts.own known c) _ is)) (λ x. choose_alike sorts known base base x body rest)
+    exec_alike known knows (While c s) is =
+        let tested = tested_alike sorts known base base (reads known knows c (left_true (keeps_to_record sorts.own known c) _ is)) in
+        let body = alike_within (grows sorts.own known s) (exec_alike known knows s (right_true (keeps_to_record sorts.own known c) _ is)) in
+        then_alike _ _ (spend_alike sorts known base base) (λ _. repeat_alike known knows tested body (ret_alike sorts known base base tt))
+    exec_alike known knows (Do s c) is =
+        let tested = tested_alike sorts known base base (reads known knows c (left_true (keeps_to_record sorts.own known c) _ is)) in
+        let body = alike_within (grows sorts.own known s) (exec_alike known knows s (right_true (keeps_to_record sorts.own known c) _ is)) in
+        then_alike _ _ (spend_alike sorts known base base) (λ _. then_alike _ _ (turn_alike known knows body) (λ ended. unless_alike known knows ended (repeat_alike known knows tested body (ret_alike sorts known base base tt))))
+    exec_alike known knows (For first c last s) is =
+        let more = also sorts.own (name_set_first first) known in
+        let grown = knows_more sorts known more (within_also sorts.own known (name_set_first first)) knows in
+        let loop = right_true (is_part_for_itself sorts.own known first) _ is in
+        let parts = right_true (may_keep_to_record sorts.own more c) _ loop in
+        let tested = goes_on_alike more grown c (left_true (may_keep_to_record sorts.own more c) _ loop) in
+        let end = alike_within (within_also sorts.own more (name_set_first last)) (part_alike more grown last (left_true (is_part_for_itself sorts.own more last) _ parts)) in
+        let body = alike_within (grows sorts.own more s) (exec_alike more grown s (right_true (is_part_for_itself sorts.own more last) _ parts)) in
+        then_alike _ _ (spend_alike sorts known base base) (λ _. then_alike _ _ (part_alike known knows first (left_true (is_part_for_itself sorts.own known first) _ is)) (λ _. repeat_alike more grown tested body end))
+    exec_alike known knows (ForIn x array s) is = absurd (cc)
 
-    pub exec_all_alike : (all : Statements) → are_for_themselves known all ≡ true → Does (exec_all f all) (exec_all g all)
-    exec_all_alike NoMore is = ret_alike sorts known base base flow.Normal
-    exec_all_alike (Then s all) is = let rest = exec_all_alike all (right_true (is_for_itself known s) _ is) in then_alike _ _ (exec_alike s (left_true (is_for_itself known s) _ is)) (λ c. pass_alike c rest)
+    pub exec_all_alike : (known : Names) (knows : Knows sorts known) (all : Statements) → are_for_themselves sorts.own known all ≡ true → Alike sorts known known base base (exec_all f all) (exec_all g all)
+    exec_all_alike known knows NoMore is = ret_alike sorts known base base flow.Normal
+    exec_all_alike known knows (Then s all) is =
+        let more = behind sorts.own s known in
+        let rest = exec_all_alike more (knows_more sorts known more (grows sorts.own known s) knows) all (right_true (is_for_itself sorts.own known s) _ is) in
+        then_alike _ _ (exec_alike known knows s (left_true (is_for_itself sorts.own known s) _ is)) (λ c. pass_alike known knows c (grows sorts.own known s) rest)
 
-  action_alike : (all : Statements) → are_for_themselves known all ≡ true → Does (run_action f all) (run_action g all)
-  unfolding run_action
-  action_alike all is = then_alike _ _ (exec_all_alike all is) (λ c. ret_alike sorts known base base tt)
+  module _ (known : Names) (knows : Knows sorts known) where
+    action_alike : (all : Statements) → are_for_themselves sorts.own known all ≡ true → Does known knows (run_action f all) (run_action g all)
+    unfolding run_action
+    action_alike all is = then_alike _ _ (exec_all_alike known knows all is) (λ c. ret_alike sorts known base base tt)
 
-  selects_alike : (n : ℕ) (p : Pattern) → pattern_keeps_to_record known p ≡ true → Does (selects f n p) (selects g n p)
-  unfolding selects
-  selects_alike n (Single e) is = tested_alike sorts known base base (reads e is)
-  selects_alike n (Range from to) is = absurd (cc)
+    selects_alike : (n : ℕ) (p : Pattern) → pattern_keeps_to_record sorts.own known p ≡ true → Does known knows (selects f n p) (selects g n p)
+    unfolding selects
+    selects_alike n (Single e) is = tested_alike sorts known base base (reads known knows e is)
+    selects_alike n (Range from to) is = absurd (cc)
 
-  print_record_alike : Does (print_record f) (print_record g)
-  unfolding print_record
-  print_record_alike = print_alike form.Print (Bare Nil) Standard refl refl
+    print_record_alike : Does known knows (print_record f) (print_record g)
+    unfolding print_record
+    print_record_alike = print_alike known knows form.Print (Bare Nil) Standard refl refl
 
-  item_alike : (n : ℕ) (x : Item) → is_rule_for_itself known x ≡ true → Does (try_item f n x) (try_item g n x)
-  unfolding try_item
-  item_alike n (Action block) is = action_alike block is
-  item_alike n (PatternAction p block) is = then_alike _ _ (selects_alike n p (left_true (pattern_keeps_to_record known p) _ is)) (λ x. choose_alike sorts known base base x (action_alike block (right_true (pattern_keeps_to_record known p) _ is)) (ret_alike sorts known base base tt))
-  item_alike n (PatternOnly p) is = then_alike _ _ (selects_alike n p is) (λ x. choose_alike sorts known base base x print_record_alike (ret_alike sorts known base base tt))
-  item_alike n (Begin block) is = ret_alike sorts known base base tt
-  item_alike n (End block) is = absurd (cc)
-  item_alike n (Function name parameters block) is = absurd (cc)
+    item_alike : (n : ℕ) (x : Item) → is_rule_for_itself sorts.own known x ≡ true → Does known knows (try_item f n x) (try_item g n x)
+    unfolding try_item
+    item_alike n (Action block) is = action_alike block is
+    item_alike n (PatternAction p block) is = then_alike _ _ (selects_alike n p (left_true (pattern_keeps_to_record sorts.own known p) _ is)) (λ x. choose_alike sorts known base base x (action_alike block (right_true (pattern_keeps_to_record sorts.own known p) _ is)) (ret_alike sorts known base base tt))
+    item_alike n (PatternOnly p) is = then_alike _ _ (selects_alike n p is) (λ x. choose_alike sorts known base base x print_record_alike (ret_alike sorts known base base tt))
+    item_alike n (Begin block) is = ret_alike sorts known base base tt
+    item_alike n (End block) is = absurd (cc)
+    item_alike n (Function name parameters block) is = absurd (cc)
 
-  pub items_alike : (n : ℕ) (xs : List Item) → are_rules_for_themselves known xs ≡ true → Does (try_items f n xs) (try_items g n xs)
-  unfolding try_items
-  items_alike n [] is = ret_alike sorts known base base tt
-  items_alike n (x ∷ xs) is = then_alike _ _ (item_alike n x (left_true (is_rule_for_itself known x) _ is)) (λ _. items_alike (suc n) xs (right_true (is_rule_for_itself known x) _ is))
+    pub items_alike : (n : ℕ) (xs : List Item) → are_rules_for_themselves sorts.own known xs ≡ true → Does known knows (try_items f n xs) (try_items g n xs)
+    unfolding try_items
+    items_alike n [] is = ret_alike sorts known base base tt
+    items_alike n (x ∷ xs) is = then_alike _ _ (item_alike n x (left_true (is_rule_for_itself sorts.own known x) _ is)) (λ _. items_alike (suc n) xs (right_true (is_rule_for_itself sorts.own known x) _ is))
 
-  pub until_alike : {m n : Run (Unit {0})} → Does m n → Alike sorts known sorts.shared base base (until_next m) (until_next n)
-  unfolding until_next
-  until_alike {m = m} {n = n} h = record { covers = λ o p c v w k d agrees. ended_covers sorts known base base o p v w k d (m (state_on base o c v k)).result (m (state_on base o c v k)).state (m (state_on base o c v k)).effects (n (state_on base p c w (k + d))) within (h.covers o p c v w k d agrees) }
+  module _ (known : Names) (knows : Knows sorts known) where
+    pub until_alike : {m n : Run (Unit {0})} → Does known knows m n → Alike sorts known sorts.shared base base (until_next m) (until_next n)
+    unfolding until_next
+    until_alike {m = m} {n = n} h = record { covers = λ o p c v w k d agrees. ended_covers sorts known base base o p v w k d (m (state_on base o c v k)).result (m (state_on base o c v k)).state (m (state_on base o c v k)).effects (n (state_on base p c w (k + d))) knows.within (h.covers o p c v w k d agrees) }

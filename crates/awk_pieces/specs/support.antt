@@ -1,1 +1,1 @@
-pub mod Readable
+pub mod Known

@@ -8,7 +8,7 @@ use Rattle.awk_lex.specs.declared.token.BuiltIn.TheVariants as builtin
 use Rattle.awk_lex.specs.declared.token.IncrementOperator.{IncrementOperator}
 use Rattle.awk_lex.specs.declared.token.IncrementOperator.TheVariants as increment
 use Rattle.awk_grammar.specs.Tree.{Expr, Number, String, Name, Element, Group, BuiltIn, PreIncrement, PostIncrement, Unary, Binary, Membership, ListMembership, Conditional, Assign, Exprs, Nil, Cons, PrintList, Bare, Parenthesized, Output, Standard, Redirected, SimpleStatement, Expression, Print, Next, Statement, Empty, Simple, Block, If, IfElse, ForIn, Statements, NoMore, Then, Item, Begin, End, Action, PatternAction}
-use Rattle.awk_pieces.specs.definitions.Pieceable.{tells_apart, keeps_to_record, all_keep_to_record, all_only_set, pattern_keeps_to_record}
+use Rattle.awk_pieces.specs.definitions.Pieceable.{tells_apart, no_own, keeps_to_record, all_keep_to_record, all_only_set, pattern_keeps_to_record}
 use Rattle.awk_merging.specs.definitions.Sums.{Sum, ByKey, Alone, name_of_sum, merge_what, merge_key, is_taken}
 
 -- Which sums a program has.
@@ -120,18 +120,18 @@ module _ (sums : List Sum) where
 
   -- an addition to a sum of what the record gives
   abbrev pub is_sum_place : (place : Expr) → Bool
-  is_sum_place (Element a es) = is_array_sum sums a && all_keep_to_record knows es
+  is_sum_place (Element a es) = is_array_sum sums a && all_keep_to_record no_own knows es
   is_sum_place (Name x) = is_variable_sum sums x
   is_sum_place e = false
 
   abbrev pub is_addition : Expr → Bool
-  is_addition (Assign operator place e) = is_plus operator && (is_sum_place place && keeps_to_record knows e)
+  is_addition (Assign operator place e) = is_plus operator && (is_sum_place place && keeps_to_record no_own knows e)
   is_addition (PreIncrement operator place) = is_plus_one operator && is_sum_place place
   is_addition (PostIncrement operator place) = is_plus_one operator && is_sum_place place
   is_addition e = false
 
   abbrev pub is_simple_summing : SimpleStatement → Bool
-  is_simple_summing (Expression e) = is_addition e || keeps_to_record knows e
+  is_simple_summing (Expression e) = is_addition e || keeps_to_record no_own knows e
   is_simple_summing Next = true
   is_simple_summing simple = false
 
@@ -141,8 +141,8 @@ module _ (sums : List Sum) where
     only_sums Empty = true
     only_sums (Simple simple) = is_simple_summing simple
     only_sums (Block all) = all_only_sum all
-    only_sums (If c s) = keeps_to_record knows c && only_sums s
-    only_sums (IfElse c s other) = keeps_to_record knows c && (only_sums s && only_sums other)
+    only_sums (If c s) = keeps_to_record no_own knows c && only_sums s
+    only_sums (IfElse c s other) = keeps_to_record no_own knows c && (only_sums s && only_sums other)
     only_sums s = false
 
     pub all_only_sum : Statements → Bool
@@ -213,7 +213,7 @@ module _ (sums : List Sum) where
   abbrev pub is_mergeable_item : Item → Bool
   is_mergeable_item (Begin block) = all_only_set block && all_only_set_others block
   is_mergeable_item (Action block) = all_only_sum block
-  is_mergeable_item (PatternAction p block) = pattern_keeps_to_record knows p && all_only_sum block
+  is_mergeable_item (PatternAction p block) = pattern_keeps_to_record no_own knows p && all_only_sum block
   is_mergeable_item (End block) = all_only_print block
   is_mergeable_item x = false
 

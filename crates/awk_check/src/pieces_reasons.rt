@@ -1,0 +1,200 @@
+// Why a program isn't known to run on pieces of its input.
+
+use crate::reasons::{
+    Part, exchanged_elsewhere, finding_of, is_set, plain_finding, reason_of_function,
+};
+use crate::statements::{StatementScan, have_name, is_of_awk};
+use awk_findings::Finding;
+use awk_findings::calls::{Stretch, kind_before, kind_behind, name_of, only_token};
+use awk_lex::token::{AssignmentOperator, BuiltIn, Keyword, Kind, Token};
+use awk_pieces::tells_apart;
+use std::alloc::{AllocError, Global};
+
+const NOT_KNOWN: &[u8] = b"not known to run on pieces: ";
+
+/// A scan for the first reason.
+#[derive(Drop)]
+struct PiecesScan<'a> {
+    tokens: &'a [Token],
+    /// The tokens at which rules set names by statements of their own.
+    own: Vec<usize>,
+    statements: StatementScan<'a>,
+}
+
+/// The tokens at which rules set names by statements of their own, or as a `for` begins.
+fn names_set(alloc: Global, tokens: &[Token]) -> Result<Vec<usize>, AllocError> {
+    let mut names = Vec::new(alloc);
+    let mut scan = StatementScan::new(alloc, tokens);
+    for (at, token) in tokens.iter().enumerate() {
+        if let Kind::Name(name) = &token.kind {
+            if scan.sets(at, name.as_slice()) {
+                names.push(at)?;
+            }
+        }
+        scan.step(at, &token.kind)?;
+    }
+    Ok(names)
+}
+
+impl PiecesScan<'_> {
+    fn part(&self) -> Part {
+        self.statements.items.part
+    }
+
+    /// Whether some rule sets the name by a statement of its own.
+    fn is_own(&self, name: &[u8]) -> bool {
+        have_name(self.tokens, &self.own, name)
+    }
+
+    /// Why a name in BEGIN is a reason.
+    fn reason_in_begin(&self, at: usize, name: &[u8]) -> &'static [u8] {
+        let behind = kind_behind(self.tokens, at, 1);
+        if self.statements.begins {
+            return match behind {
+                Some(Kind::Assign(AssignmentOperator::Plain)) => match name {
+                    b"RS" | b"NF" => b" is set before the records",
+                    _ if tells_apart(name) => b" is set before the records",
+                    _ => b"",
+                },
+                _ => b": in BEGIN names may be assigned by = alone",
+            };
+        }
+        if matches!(behind, Some(Kind::OpenBracket)) {
+            return b" is an array";
+        }
+        if is_set(self.tokens, at) && name != b"NF".as_slice() {
+            return b" is assigned in an expression";
+        }
+        b""
+    }
+
+    /// Why a name that is set in a rule or a pattern is a reason.
+    fn reason_of_set(&self, at: usize, name: &[u8]) -> &'static [u8] {
+        if name == b"NF".as_slice() || self.statements.sets(at, name) {
+            return b"";
+        }
+        if is_of_awk(name) {
+            return b" is assigned in a rule";
+        }
+        if self.statements.was_set(name) {
+            return b"";
+        }
+        // (the last part of a `for` is a statement too, and makes nothing known)
+        let is_last = matches!(kind_before(self.tokens, at, 1), Some(Kind::Semicolon));
+        match kind_behind(self.tokens, at, 1) {
+            Some(Kind::Assign(AssignmentOperator::Plain)) if is_last && self.is_own(name) => b"",
+            Some(Kind::Assign(AssignmentOperator::Plain)) => {
+                b" is assigned in an expression, and not set before for the record"
+            }
+            _ => b" is changed before it is set for the record",
+        }
+    }
+
+    /// Why a name in a rule or a pattern is a reason.
+    fn reason_in_rule(&self, at: usize, name: &[u8]) -> &'static [u8] {
+        if matches!(kind_behind(self.tokens, at, 1), Some(Kind::OpenBracket)) {
+            return b" is an array";
+        }
+        if is_set(self.tokens, at) {
+            return self.reason_of_set(at, name);
+        }
+        if tells_apart(name) {
+            return b" is read in a rule";
+        }
+        if !self.statements.was_set(name) && self.is_own(name) {
+            return b" is read before it is set for the record";
+        }
+        b""
+    }
+
+    /// Why a keyword is a reason.
+    fn reason_of_keyword(&self, at: usize, keyword: Keyword) -> &'static [u8] {
+        match keyword {
+            Keyword::Begin => b"",
+            Keyword::End => b" stands behind all records",
+            Keyword::Function => b" stands beside the rules",
+            Keyword::Getline => b" reads another input",
+            _ if self.part() == Part::Begin => b" in BEGIN",
+            Keyword::For => match kind_behind(self.tokens, at, 3) {
+                Some(Kind::Keyword(Keyword::In)) => b" goes over an array",
+                _ => b"",
+            },
+            Keyword::In => b" looks into an array",
+            Keyword::Exit | Keyword::NextFile => b" passes over the records behind",
+            Keyword::Delete | Keyword::Return => b" in a rule",
+            _ => b"",
+        }
+    }
+
+    /// Whether what is exchanged in is a variable that was set before.
+    fn is_set_before(&self, place: Stretch) -> bool {
+        match only_token(self.tokens, place) {
+            Some(token) => match name_of(token) {
+                Some(name) => self.statements.was_set(name),
+                None => false,
+            },
+            None => false,
+        }
+    }
+
+    /// Why a call of a built-in function is a reason.
+    fn reason_of_call(
+        &self,
+        alloc: Global,
+        at: usize,
+        function: BuiltIn,
+    ) -> Result<&'static [u8], AllocError> {
+        if let BuiltIn::Sub | BuiltIn::Gsub = function {
+            return Ok(match exchanged_elsewhere(alloc, self.tokens, at)? {
+                Some(place) if !self.is_set_before(place) => {
+                    b" exchanges in what is neither a field nor set before for the record"
+                }
+                _ => b"",
+            });
+        }
+        Ok(reason_of_function(function))
+    }
+
+    /// Why a token is a reason, behind its text, or nothing where it is none.
+    fn reason(&self, alloc: Global, at: usize, kind: &Kind) -> Result<&'static [u8], AllocError> {
+        let reason = self.statements.items.reason(kind);
+        if !reason.is_empty() {
+            return Ok(reason);
+        }
+        let is_begin = self.part() == Part::Begin;
+        Ok(match kind {
+            Kind::Name(name) if is_begin => self.reason_in_begin(at, name.as_slice()),
+            Kind::Name(name) => self.reason_in_rule(at, name.as_slice()),
+            Kind::Keyword(keyword) => self.reason_of_keyword(at, *keyword),
+            Kind::BuiltIn(function) => self.reason_of_call(alloc, at, *function)?,
+            Kind::Newline | Kind::Semicolon | Kind::CloseBrace => b"",
+            _ if is_begin && self.statements.begins => {
+                b": in BEGIN names may be assigned by = alone"
+            }
+            _ => b"",
+        })
+    }
+}
+
+/// The first reason that is found why a program isn't known to run on pieces of its input, and the plain one
+/// where its text has none.
+pub(crate) fn pieces_finding(
+    alloc: Global,
+    text: &[u8],
+    tokens: &[Token],
+    plain: &[u8],
+) -> Result<Finding, AllocError> {
+    let mut scan = PiecesScan {
+        tokens,
+        own: names_set(alloc, tokens)?,
+        statements: StatementScan::new(alloc, tokens),
+    };
+    for (at, token) in tokens.iter().enumerate() {
+        let reason = scan.reason(alloc, at, &token.kind)?;
+        if !reason.is_empty() {
+            return finding_of(alloc, text, token, NOT_KNOWN, reason);
+        }
+        scan.statements.step(at, &token.kind)?;
+    }
+    plain_finding(alloc, NOT_KNOWN, plain)
+}

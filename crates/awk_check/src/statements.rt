@@ -1,0 +1,245 @@
+// Where statements begin and end among tokens, and which variables of the record are set there.
+
+use crate::reasons::{ItemScan, Part, goes_on};
+use awk_findings::calls::{kind_before, kind_behind, name_of};
+use awk_kinds::Special;
+use awk_lex::token::{AssignmentOperator, Keyword, Kind, Token};
+use awk_pieces::tells_apart;
+use std::alloc::{AllocError, Global};
+
+/// What statements stand in.
+#[derive(Clone, Copy, PartialEq, Eq)]
+enum Surrounding {
+    Braces,
+    /// An `if`, before its `else`.
+    If,
+    Do,
+    /// Another statement that has them for its body.
+    Other,
+}
+
+/// What is open: at its end is forgotten what was set in it.
+#[derive(Clone, Copy)]
+struct Scope {
+    surrounding: Surrounding,
+    /// How many names were set before.
+    set: usize,
+}
+
+/// A scan of statements, which keeps the names that rules set by statements of their own.
+#[derive(Drop)]
+pub(crate) struct StatementScan<'a> {
+    tokens: &'a [Token],
+    pub(crate) items: ItemScan,
+    /// Whether a statement begins here.
+    pub(crate) begins: bool,
+    /// What the parentheses stand before that are open, or open next.
+    head: Option<Surrounding>,
+    /// Whether the body of a `do` has ended, whose `while` comes next.
+    ends_do: bool,
+    scopes: Vec<Scope>,
+    /// The token of the name that is set behind the statement.
+    setting: Option<usize>,
+    /// The tokens of the names that were set before, in turn.
+    set: Vec<usize>,
+}
+
+/// Whether a variable is one of awk's own.
+pub(crate) fn is_of_awk(name: &[u8]) -> bool {
+    name == b"NF".as_slice() || tells_apart(name) || Special::named(name).is_some()
+}
+
+/// Whether one of these tokens is the name: the last ones are looked at first.
+pub(crate) fn have_name(tokens: &[Token], places: &[usize], name: &[u8]) -> bool {
+    for place in places.iter().rev() {
+        if let Some(token) = tokens.get(*place) {
+            if name_of(token) == Some(name) {
+                return true;
+            }
+        }
+    }
+    false
+}
+
+/// Whether `else` stands behind a token, over newlines.
+fn is_before_else(tokens: &[Token], at: usize) -> bool {
+    for token in tokens.get(at.saturating_add(1)..).unwrap_or(&[]) {
+        match token.kind {
+            Kind::Newline => {}
+            Kind::Keyword(Keyword::Else) => return true,
+            _ => return false,
+        }
+    }
+    false
+}
+
+impl<'a> StatementScan<'a> {
+    /// A scan as it begins.
+    pub(crate) fn new(alloc: Global, tokens: &'a [Token]) -> StatementScan<'a> {
+        StatementScan {
+            tokens,
+            items: ItemScan::new(),
+            begins: true,
+            head: None,
+            ends_do: false,
+            scopes: Vec::new(alloc),
+            setting: None,
+            set: Vec::new(alloc),
+        }
+    }
+
+    /// Whether a rule sets the name at a token by a statement of its own, or as a `for` begins, and it isn't one
+    /// of awk's.
+    pub(crate) fn sets(&self, at: usize, name: &[u8]) -> bool {
+        let is_plain = matches!(
+            kind_behind(self.tokens, at, 1),
+            Some(Kind::Assign(AssignmentOperator::Plain))
+        );
+        let is_first = matches!(kind_before(self.tokens, at, 1), Some(Kind::OpenParenthesis))
+            && matches!(
+                kind_before(self.tokens, at, 2),
+                Some(Kind::Keyword(Keyword::For))
+            );
+        self.items.part == Part::Rule && is_plain && (self.begins || is_first) && !is_of_awk(name)
+    }
+
+    /// Whether the name was set before.
+    pub(crate) fn was_set(&self, name: &[u8]) -> bool {
+        have_name(self.tokens, &self.set, name)
+    }
+
+    /// Keeps the name that the statement sets, behind it.
+    fn keep(&mut self) -> Result<(), AllocError> {
+        if let Some(at) = self.setting {
+            self.set.push(at)?;
+            self.setting = None;
+        }
+        Ok(())
+    }
+
+    fn enter(&mut self, surrounding: Surrounding) -> Result<(), AllocError> {
+        let set = self.set.len();
+        self.scopes.push(Scope { surrounding, set })?;
+        Ok(())
+    }
+
+    /// Leaves all that is open but the first of it.
+    fn leave(&mut self, kept: usize) {
+        if let Some(scope) = self.scopes.get(kept) {
+            self.set.truncate(scope.set);
+        }
+        self.scopes.truncate(kept);
+    }
+
+    /// How many stay open behind a statement that ends: the braces around it, a `do` that is the body of others, and
+    /// what an `if` is in that has its `else` to come.
+    fn kept(&self, is_before_else: bool) -> usize {
+        let mut kept = self.scopes.len();
+        for scope in self.scopes.iter().rev() {
+            if scope.surrounding == Surrounding::Braces {
+                return kept;
+            }
+            kept = kept.saturating_sub(1);
+            if scope.surrounding == Surrounding::Do
+                || (scope.surrounding == Surrounding::If && is_before_else)
+            {
+                return kept;
+            }
+        }
+        kept
+    }
+
+    /// Ends a statement with a token, and those whose last part it is.
+    fn end(&mut self, at: usize) -> Result<(), AllocError> {
+        self.keep()?;
+        let kept = self.kept(is_before_else(self.tokens, at));
+        self.ends_do = match self.scopes.get(kept) {
+            Some(scope) => scope.surrounding == Surrounding::Do,
+            None => false,
+        };
+        self.leave(kept);
+        Ok(())
+    }
+
+    /// Ends what stands in braces, and the statement that they are.
+    fn close(&mut self, at: usize) -> Result<(), AllocError> {
+        self.keep()?;
+        let braces = self.kept(false).saturating_sub(1);
+        self.leave(braces);
+        self.end(at)
+    }
+
+    /// Goes over a word, and tells whether a statement begins behind it.
+    fn word(&mut self, keyword: Keyword) -> Result<bool, AllocError> {
+        match keyword {
+            Keyword::If => self.head = Some(Surrounding::If),
+            Keyword::While if self.ends_do => self.ends_do = false,
+            Keyword::While | Keyword::For => self.head = Some(Surrounding::Other),
+            Keyword::Else => self.enter(Surrounding::Other)?,
+            Keyword::Do => self.enter(Surrounding::Do)?,
+            _ => {}
+        }
+        Ok(matches!(keyword, Keyword::Else | Keyword::Do))
+    }
+
+    /// Goes over the end of parentheses, and tells whether a statement begins behind it.
+    fn parenthesis(&mut self) -> Result<bool, AllocError> {
+        match self.head {
+            Some(surrounding) if self.items.lists == 1 => {
+                self.head = None;
+                self.enter(surrounding)?;
+                Ok(true)
+            }
+            _ => Ok(false),
+        }
+    }
+
+    /// Goes over a semicolon, and tells whether a statement begins behind it: in parentheses it is one of a `for`.
+    fn semicolon(&mut self, at: usize) -> Result<bool, AllocError> {
+        if self.items.lists > 0 {
+            self.keep()?;
+            return Ok(false);
+        }
+        self.end(at)?;
+        Ok(true)
+    }
+
+    /// Goes over a newline, and tells whether a statement begins behind it.
+    fn newline(&mut self, at: usize) -> Result<bool, AllocError> {
+        if self.begins {
+            return Ok(true);
+        }
+        if self.items.lists > 0 || goes_on(kind_before(self.tokens, at, 1)) {
+            return Ok(false);
+        }
+        self.end(at)?;
+        Ok(true)
+    }
+
+    /// Goes over a token.
+    pub(crate) fn step(&mut self, at: usize, kind: &Kind) -> Result<(), AllocError> {
+        self.begins = match kind {
+            Kind::Name(name) => {
+                if self.sets(at, name.as_slice()) {
+                    self.setting = Some(at);
+                }
+                false
+            }
+            Kind::OpenBrace => {
+                self.enter(Surrounding::Braces)?;
+                true
+            }
+            Kind::CloseBrace => {
+                self.close(at)?;
+                true
+            }
+            Kind::Keyword(keyword) => self.word(*keyword)?,
+            Kind::CloseParenthesis => self.parenthesis()?,
+            Kind::Semicolon => self.semicolon(at)?,
+            Kind::Newline => self.newline(at)?,
+            _ => false,
+        };
+        self.items.step(kind);
+        Ok(())
+    }
+}

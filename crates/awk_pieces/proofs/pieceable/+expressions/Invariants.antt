@@ -1,8 +1,0 @@
-use Rattle.std.proofs.Common.{◌≡◌, drop}
-use Rattle.awk_grammar.specs.View.{exprs_of}
-use Rattle.awk_pieces.specs.definitions.Pieceable.{all_keep_to_record}
-use Rattle.awk_pieces.specs.support.Readable.{names_of}
-use Rattle.awk_pieces.proofs.pieceable.+expressions.Given as goal
-
-abbrev pub invariant-all_keep_to_record-loop-e : goal.invariant-all_keep_to_record-loop-e
-invariant-all_keep_to_record-loop-e l = all_keep_to_record (names_of l.readable) (exprs_of (drop l.e-index l.list)) ≡ all_keep_to_record (names_of l.readable) (exprs_of l.list)

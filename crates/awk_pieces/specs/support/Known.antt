@@ -1,0 +1,15 @@
+-- What a rule may read at a place, as the code keeps it.
+use Rattle.std.specs.Prelude.{ℕ, Bool, List, [], ◌∷◌, Some}
+use Rattle.awk_pieces.specs.definitions.Pieceable.{is_own, also, knows}
+use Rattle.awk_pieces.specs.declared.readable.Known.{Known}
+
+-- what is known behind statements that set these names in turn
+abbrev pub set_known : (own : List ℕ → Bool) → List (List ℕ) → (known : List ℕ → Bool) → List ℕ → Bool
+set_known own [] known = known
+set_known own (x ∷ xs) known = set_known own xs (also own (Some x) known)
+
+abbrev pub own_of : Known → List ℕ → Bool
+own_of k = is_own k.names.now
+
+abbrev pub known_of : Known → List ℕ → Bool
+known_of k = set_known (own_of k) k.set.items (knows (own_of k))

@@ -1,0 +1,179 @@
+// The names of variables: awk's own, and those that the rules of a program set.
+
+ghost use Rattle.std.specs.Prelude.{◌≡◌, ◌++◌, bytes_eq, IfOk, OnOk};
+ghost use Rattle.std.specs.Option.{option_map};
+ghost use Rattle.std.specs.List.{list_any};
+ghost use Rattle.awk_grammar.specs.View as g;
+ghost use Rattle.awk_kinds.specs.Names.{has_name};
+ghost use Rattle.awk_pieces.specs.definitions.Pieceable.{is_counter, is_of_start, tells_apart, is_setting_of_awk, leaves_records, name_of, name_set, name_set_by, name_set_first, name_behind, listed, names_set, all_names_set, names_set_in_rules, is_own};
+
+use awk_grammar::tree::{Expr, Item, SimpleStatement, Statement};
+use awk_lex::token::AssignmentOperator;
+use awk_value::Bytes;
+use std::alloc::{AllocError, Global};
+
+/// Whether the variable tells where in the input a record stands.
+fn is_counter(name: &[u8]) -> bool
+    ensures { result ≡ is_counter name.now }
+{
+    name == b"NR".as_slice() || name == b"FNR".as_slice() || name == b"FILENAME".as_slice()
+}
+
+/// Whether the variable tells what the run was started with.
+fn is_of_start(name: &[u8]) -> bool
+    ensures { result ≡ is_of_start name.now }
+{
+    name == b"ARGC".as_slice() || name == b"ARGV".as_slice() || name == b"ENVIRON".as_slice()
+}
+
+/// Whether the variable may be another on each piece of an input: it tells where a record stands, or what the
+/// run was started with.
+pub fn tells_apart(name: &[u8]) -> bool
+    ensures { result ≡ tells_apart name.now }
+{
+    is_counter(name) || is_of_start(name)
+}
+
+/// Whether an assignment to the variable before the run changes neither how records are found nor
+/// their count (POSIX awk, Variables and Special Variables).
+pub fn leaves_records(name: &[u8]) -> bool
+    ensures { result ≡ leaves_records name.now }
+{
+    let finds = name == b"RS".as_slice() || name == b"NF".as_slice();
+    !(tells_apart(name) || finds)
+}
+
+/// Whether it is another of awk's own variables.
+fn is_setting_of_awk(name: &[u8]) -> bool
+    ensures { result ≡ is_setting_of_awk name.now }
+{
+    name == b"CONVFMT".as_slice()
+        || name == b"FS".as_slice()
+        || name == b"NF".as_slice()
+        || name == b"OFMT".as_slice()
+        || name == b"OFS".as_slice()
+        || name == b"ORS".as_slice()
+        || name == b"RLENGTH".as_slice()
+        || name == b"RS".as_slice()
+        || name == b"RSTART".as_slice()
+        || name == b"SUBSEP".as_slice()
+}
+
+/// The name that an expression is.
+fn name_of(e: &Expr) -> Option<&Bytes>
+    ensures { option_map (λ name. name.now) result ≡ name_of (g.expr_of e.now) }
+{
+    match e {
+        Expr::Name(name) => Some(name),
+        _ => None,
+    }
+}
+
+/// The variable that an expression sets by `=`.
+fn name_set(e: &Expr) -> Option<&Bytes>
+    ensures { option_map (λ name. name.now) result ≡ name_set (g.expr_of e.now) }
+{
+    match e {
+        Expr::Assign(AssignmentOperator::Plain, place, _) => name_of(place),
+        _ => None,
+    }
+}
+
+/// The variable that a statement sets by `=`.
+fn name_set_by(simple: &SimpleStatement) -> Option<&Bytes>
+    ensures { option_map (λ name. name.now) result ≡ name_set_by (g.simple_of simple.now) }
+{
+    match simple {
+        SimpleStatement::Expression(e) => name_set(e),
+        _ => None,
+    }
+}
+
+/// The same of the first part of a `for`.
+pub(crate) fn name_set_first(first: &Option<SimpleStatement>) -> Option<&Bytes>
+    ensures { option_map (λ name. name.now) result ≡ name_set_first (g.optional_simple_of first.now) }
+{
+    match first {
+        Some(simple) => name_set_by(simple),
+        None => None,
+    }
+}
+
+/// The variable that is set so behind a statement.
+pub(crate) fn name_behind(s: &Statement) -> Option<&Bytes>
+    ensures { option_map (λ name. name.now) result ≡ name_behind (g.statement_of s.now) }
+{
+    match s {
+        Statement::Simple(simple) => name_set_by(simple),
+        Statement::For(parts, _) => name_set_first(&parts.first),
+        _ => None,
+    }
+}
+
+/// Adds a name, where there is one.
+pub(crate) fn add_name(names: &mut Vec<Bytes>, name: Option<&Bytes>) -> Result<(), AllocError>
+    ensures { OnOk result (names.new.items ≡ names.old.items ++ listed (option_map (λ name. name.now) name.entry)) }
+{
+    if let Some(name) = name {
+        names.push(name.clone()?)?;
+    }
+    Ok(())
+}
+
+/// Adds the names that a statement and those in it set.
+#[cycle(names)]
+fn add_names(names: &mut Vec<Bytes>, s: &Statement) -> Result<(), AllocError>
+    ensures { OnOk result (names.new.items ≡ names.old.items ++ names_set (g.statement_of s.now)) }
+{
+    match s {
+        Statement::Simple(simple) => add_name(names, name_set_by(simple)),
+        Statement::Block(all) => add_all_names(names, all),
+        Statement::If(_, s) | Statement::While(_, s) | Statement::Do(s, _) => add_names(names, s),
+        Statement::IfElse(_, s, other) => {
+            add_names(names, s)?;
+            add_names(names, other)
+        }
+        Statement::For(parts, s) => {
+            add_name(names, name_set_first(&parts.first))?;
+            add_names(names, s)
+        }
+        Statement::Empty | Statement::ForIn(_, _, _) => Ok(()),
+    }
+}
+
+#[cycle(names)]
+fn add_all_names(names: &mut Vec<Bytes>, all: &[Statement]) -> Result<(), AllocError>
+    ensures { OnOk result (names.new.items ≡ names.old.items ++ all_names_set (g.statements_of all.now)) }
+{
+    for s in all {
+        add_names(names, s)?;
+    }
+    Ok(())
+}
+
+/// The names that the rules of a program set by statements of their own, or as a loop begins.
+pub(crate) fn names_set_in_rules(alloc: Global, items: &[Item]) -> Result<Vec<Bytes>, AllocError>
+    ensures { IfOk result (λ names. names.items ≡ names_set_in_rules (g.items_of items.now)) }
+{
+    let mut names = Vec::new(alloc);
+    for item in items {
+        if let Item::Action(block) | Item::PatternAction(_, block) = item {
+            add_all_names(&mut names, block)?;
+        }
+    }
+    Ok(names)
+}
+
+/// Whether one of the names is this one.
+pub(crate) fn has_name(names: &[Bytes], name: &[u8]) -> bool
+    ensures { result ≡ has_name names.now name.now }
+{
+    names.iter().any(|other| name == other.as_slice())
+}
+
+/// Whether the variable is one of the record, where rules set these names: not one of awk's own.
+pub(crate) fn is_own(names: &[Bytes], name: &[u8]) -> bool
+    ensures { result ≡ is_own names.now name.now }
+{
+    has_name(names, name) && !(tells_apart(name) || is_setting_of_awk(name))
+}

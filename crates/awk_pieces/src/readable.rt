@@ -1,0 +1,106 @@
+// The variables that an expression may read, and those of the record.
+
+ghost use Rattle.std.specs.Prelude.{◌≡◌, ◌++◌, ℕ, Bool, true, false, List, [], OnOk, take, length};
+ghost use Rattle.std.specs.Option.{option_map};
+ghost use Rattle.awk_pieces.specs.definitions.Pieceable.{listed, no_own};
+ghost use Rattle.awk_pieces.specs.support.Known.{own_of, known_of};
+
+use crate::names::{add_name, has_name, is_own, tells_apart};
+use awk_value::Bytes;
+use std::alloc::{AllocError, Global};
+
+/// The variables that an expression may read, and those of the record, which it may change as well.
+pub trait Readable {
+    ghost own: { Self → List ℕ → Bool };
+
+    ghost known: { Self → List ℕ → Bool };
+
+    /// Whether the variable of this name is one of the record.
+    fn is_own(&self, name: &[u8]) -> bool
+        ensures { result ≡ own self.now name.now };
+
+    /// Whether the variable of this name may be read.
+    fn has(&self, name: &[u8]) -> bool
+        ensures { result ≡ known self.now name.now };
+}
+
+/// All variables: before the records each has the same value in any piece.
+#[derive(Clone, Copy)]
+pub(crate) struct Every;
+
+impl Readable for Every {
+    ghost own = { λ _. no_own };
+
+    ghost known = { λ _ _. true };
+
+    fn is_own(&self, _: &[u8]) -> bool {
+        false
+    }
+
+    fn has(&self, _: &[u8]) -> bool {
+        true
+    }
+}
+
+/// Those that a rule may read: what is the same on each piece, but of the variables of the record those alone that were set
+/// before.
+#[derive(Drop)]
+pub(crate) struct Known<'a> {
+    // the names that rules set
+    names: &'a [Bytes],
+    // those that were set before, in turn
+    set: Vec<Bytes>,
+}
+
+impl<'a> Known<'a> {
+    /// What is known as a rule begins, where rules set these names.
+    pub(crate) fn new(alloc: Global, names: &'a [Bytes]) -> Known<'a>
+        ensures names { result.names.now ≡ names.now }
+        ensures set { result.set.items ≡ [] }
+    {
+        Known {
+            names,
+            set: Vec::new(alloc),
+        }
+    }
+
+    /// How many were set.
+    pub(crate) fn len(&self) -> usize
+        ensures { result ≡ length self.now.set.items }
+    {
+        self.set.len()
+    }
+
+    /// One more is set, where there is a name.
+    pub(crate) fn add(&mut self, name: Option<&Bytes>) -> Result<(), AllocError>
+        ensures own { OnOk result (own_of self.new ≡ own_of self.old) }
+        ensures set { OnOk result (self.new.set.items ≡ self.old.set.items ++ listed (option_map (λ name. name.now) name.entry)) }
+    {
+        add_name(&mut self.set, name)
+    }
+
+    /// So many are known to be set, and no others.
+    pub(crate) fn truncate(&mut self, count: usize)
+        ensures own { own_of self.new ≡ own_of self.old }
+        ensures set { self.new.set.items ≡ take count self.old.set.items }
+    {
+        self.set.truncate(count);
+    }
+}
+
+impl Readable for Known<'_> {
+    ghost own = { own_of };
+
+    ghost known = { known_of };
+
+    fn is_own(&self, name: &[u8]) -> bool {
+        is_own(self.names, name)
+    }
+
+    fn has(&self, name: &[u8]) -> bool {
+        if is_own(self.names, name) {
+            return has_name(&self.set, name);
+        }
+        !tells_apart(name)
+    }
+}
