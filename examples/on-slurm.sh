@@ -4,9 +4,10 @@
 #
 # The first stage is an array of jobs, each of which reads its own piece of the file, cut behind newlines: for a program
 # that treats each record for itself, as `awk-check --pieces` tells. The second begins when all of these ended well, and
-# joins what they printed in OUTPUT, in the order of the pieces; or, where ALL is given, it is that program over their
-# outputs and a last line `complete`, as in examples/added-pieces.sh. It waits for both. Where a job fails, the status
-# isn't 0 and there is no OUTPUT; what the jobs said is in OUTPUT.log. The files lie where all machines see them.
+# joins what they printed in OUTPUT, in the order of the pieces; or, where ALL is given, it is that program over what they
+# printed: PROGRAM and ALL are then what `awk-check --each` and `awk-check --all` print of a program that sums up. It waits
+# for both. Where a job fails, the status isn't 0 and there is no OUTPUT; what the jobs said is in OUTPUT.log. The files lie
+# where all machines see them.
 set -u
 
 # In a job: the words are those that were given below.
@@ -23,10 +24,9 @@ case $1 in
     awk=$2 output=$3 pieces=$4 all=$5
     for number in $(seq "$pieces"); do set -- "$@" "$output.$number"; done
     shift 5
+    cat "$@" >"$output.new" || exit
     if [ -n "$all" ]; then
-        { cat "$@" && echo complete; } | "$awk" -f "$all" >"$output.new" || exit
-    else
-        cat "$@" >"$output.new" || exit
+        mv "$output.new" "$output.sums" && "$awk" -f "$all" <"$output.sums" >"$output.new" && rm "$output.sums" || exit
     fi
     mv "$output.new" "$output" && rm "$@"
     exit

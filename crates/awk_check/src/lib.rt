@@ -2,12 +2,21 @@
 #![tactic(auto)]
 
 mod expected;
+mod merging;
+mod merging_reasons;
 mod pieces;
+mod pieces_reasons;
+mod reading;
+mod reasons;
 mod refused;
+mod stage;
+mod statements;
 mod verdict;
 
 pub use awk_findings::{
     Finding, Note, Place, Severity, Source, add_visible, assignment_finding, write_findings,
 };
+pub use merging::{DerivedReport, derive};
 pub use pieces::{PiecesReport, check_pieces, may_run_on_pieces};
+pub use stage::Stage;
 pub use verdict::{Report, check, status};

@@ -1,12 +1,16 @@
 // What the first words ask for.
 
+use awk_check::Stage;
+
 /// What is checked, or printed.
-#[derive(Clone, Copy, PartialEq, Eq)]
+#[derive(Clone, Copy)]
 pub(crate) enum Mode {
     /// The program of a command line of awk.
     Command,
     /// Whether it may run on pieces of its input.
     Pieces,
+    /// The program of a stage, where it may run in two.
+    Stage(Stage),
     /// Files, each of which is a program.
     Files,
     /// The programs in shell scripts and makefiles.
@@ -29,6 +33,8 @@ pub(crate) struct Asked {
 fn mode_of(word: &[u8]) -> Option<Mode> {
     match word {
         b"--pieces" => Some(Mode::Pieces),
+        b"--each" => Some(Mode::Stage(Stage::Each)),
+        b"--all" => Some(Mode::Stage(Stage::All)),
         b"--files" => Some(Mode::Files),
         b"--shell" => Some(Mode::Shell),
         b"--version" => Some(Mode::Version),

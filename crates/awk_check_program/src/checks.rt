@@ -3,7 +3,9 @@
 use crate::failure::Failure;
 use crate::files::{ProgramText, joined_files, named_text, read_script};
 use crate::operands::{add_operands, add_outputs};
-use awk_check::{Finding, Report, Severity, assignment_finding, check, check_pieces, status};
+use awk_check::{
+    Finding, Report, Severity, Stage, assignment_finding, check, check_pieces, derive, status,
+};
 use awk_command::{CommandLine, ProgramSource};
 use awk_run::Assignment;
 use awk_sarif::Checked;
@@ -121,6 +123,27 @@ impl Checks {
         let report = check_pieces(alloc, &program.text, &line.pre, &line.operands, line.limit)?;
         self.status = report.status;
         Ok(self.add(program, report.findings)?)
+    }
+
+    /// The program of a stage, of that program, or an empty text where there is none.
+    pub(crate) fn derive(
+        &mut self,
+        alloc: Global,
+        line: &CommandLine,
+        program: ProgramText,
+        stage: Stage,
+    ) -> Result<Vec<u8>, Failure> {
+        let report = derive(
+            alloc,
+            &program.text,
+            &line.pre,
+            &line.operands,
+            line.limit,
+            stage,
+        )?;
+        self.status = report.status;
+        self.add(program, report.findings)?;
+        Ok(report.text)
     }
 
     /// Something can't be read, which is told; what is behind it is checked.

@@ -12,9 +12,10 @@ mod version;
 use crate::asked::{Asked, Mode, read_asked};
 use crate::checks::{Checks, program_text};
 use crate::failure::Failure;
+use crate::files::ProgramText;
 use crate::usage::usage_fault;
 use crate::version::{VERSION, origin};
-use awk_check::{add_visible, write_findings};
+use awk_check::{Stage, add_visible, write_findings};
 use awk_command::{CommandFault, CommandLine, ProgramSource, given_words, read_command_line};
 use awk_sarif::sarif_of;
 use std::alloc::{AllocError, Global};
@@ -27,7 +28,7 @@ use std::process::ExitCode;
 const NOT_CHECKED: u8 = 2;
 
 const USAGE: &str =
-    "usage: awk-check [--format lines|sarif] [--pieces] [-F sep] [-v name=text].. [-f file.. | program] [operand..]
+    "usage: awk-check [--format lines|sarif] [--pieces|--each|--all] [-F sep] [-v name=text].. [-f file.. | program] [operand..]
        awk-check [--format lines|sarif] --files file.. | --shell file..
        awk-check --help | --version";
 
@@ -37,13 +38,15 @@ const HELP: &str =
   -v name=text    an assignment, as for awk
   -f file         a file of the program; - is standard input
   --pieces        asks whether the program may run on pieces of its input
+  --each          prints the program for each piece of an input, of one that sums up
+  --all           prints the program for what those print, joined in order
   --files file..  files, each of which is a program of its own
   --shell file..  shell scripts and makefiles with programs in them
   --format sarif  tells it as a log of SARIF, which is JSON
   --version       prints the version, and of what it was built
   --help          prints this
 The status is 0 where nothing is told, 1 where something is, and 2 of a program that is refused;
-of several the greatest. With --pieces 0 is yes and 1 no.";
+of several the greatest. With --pieces, --each and --all 0 is yes and 1 no.";
 
 /// Tells which word makes words no command line.
 fn tell_fault<R: Eprint + AllocGlobal>(
@@ -89,9 +92,8 @@ fn command_line<R: Eprint + AllocGlobal>(
     }
 }
 
-/// Prints what is told, as lines or as a log.
-fn print_checks<R: Print + AllocGlobal>(rt: &R, checks: &Checks, is_sarif: bool) -> io::Result<()> {
-    let alloc = rt.alloc();
+/// What is told, as lines or as a log.
+fn told_text(alloc: Global, checks: &Checks, is_sarif: bool) -> Result<Vec<u8>, AllocError> {
     let mut out = Vec::new(alloc);
     if is_sarif {
         let log = sarif_of(alloc, VERSION, &checks.all)?;
@@ -108,9 +110,26 @@ fn print_checks<R: Print + AllocGlobal>(rt: &R, checks: &Checks, is_sarif: bool)
             )?;
         }
     }
+    Ok(out)
+}
+
+/// Prints a text.
+fn print_text<R: Print>(rt: &R, text: &[u8]) -> io::Result<()> {
     let mut writer = io::writer(rt);
-    writer.write_all(&out)?;
+    writer.write_all(text)?;
     writer.flush()
+}
+
+/// The command line that words of awk are, and its program's text.
+fn line_and_program<R: Files + Input + Eprint + AllocGlobal>(
+    rt: &R,
+    words: &[Vec<u8>],
+) -> Result<(CommandLine, ProgramText), Failure> {
+    let mut line = command_line(rt, words)?;
+    let nothing = ProgramSource::Files(Vec::new(rt.alloc()));
+    let source = std::mem::replace(&mut line.source, nothing);
+    let program = program_text(rt, source)?;
+    Ok((line, program))
 }
 
 /// Checks the program of words of awk.
@@ -120,14 +139,32 @@ fn check_words<R: Files + Input + Eprint + AllocGlobal>(
     mode: Mode,
     checks: &mut Checks,
 ) -> Result<(), Failure> {
-    let alloc = rt.alloc();
-    let mut line = command_line(rt, words)?;
-    let source = std::mem::replace(&mut line.source, ProgramSource::Files(Vec::new(alloc)));
-    let program = program_text(rt, source)?;
+    let (line, program) = line_and_program(rt, words)?;
     match mode {
-        Mode::Pieces => checks.check_pieces(alloc, &line, program),
+        Mode::Pieces => checks.check_pieces(rt.alloc(), &line, program),
         _ => checks.check_line(rt, &line, program),
     }
+}
+
+/// Prints the program of a stage, of that of words of awk, or on standard error why there is none.
+fn serve_stage<R: Files + Input + Print + Eprint + AllocGlobal>(
+    rt: &R,
+    asked: Asked,
+    stage: Stage,
+    words: &[Vec<u8>],
+) -> Result<u8, Failure> {
+    let alloc = rt.alloc();
+    let mut checks = Checks::new(alloc);
+    let (line, program) = line_and_program(rt, words)?;
+    let text = checks.derive(alloc, &line, program, stage)?;
+    if checks.status == 0 {
+        print_text(rt, &text)?;
+    } else {
+        let told = told_text(alloc, &checks, asked.is_sarif)?;
+        let told = String::from_utf8_lossy(alloc, &told)?;
+        eprint!(rt; "{told}")?;
+    }
+    Ok(checks.status)
 }
 
 /// Checks what is asked for, with the words behind that, and prints what is told.
@@ -136,26 +173,25 @@ fn serve_asked<R: Files + Input + Print + Eprint + AllocGlobal>(
     asked: Asked,
     words: &[Vec<u8>],
 ) -> Result<u8, Failure> {
-    let mut checks = Checks::new(rt.alloc());
+    let alloc = rt.alloc();
+    let mut checks = Checks::new(alloc);
     match asked.mode {
         Mode::Files | Mode::Shell if words.is_empty() => {
             return refuse(rt, "no file is named", b"");
         }
         Mode::Files => checks.check_files(rt, words)?,
         Mode::Shell => checks.check_scripts(rt, words)?,
+        Mode::Stage(stage) => return serve_stage(rt, asked, stage, words),
         mode => check_words(rt, words, mode, &mut checks)?,
     }
-    print_checks(rt, &checks, asked.is_sarif)?;
+    print_text(rt, &told_text(alloc, &checks, asked.is_sarif)?)?;
     Ok(checks.status)
 }
 
 /// Prints the version, and of what it was built.
 fn serve_version<R: Files + Input + Print + AllocGlobal>(rt: &R) -> Result<u8, Failure> {
     println!(rt; "awk-check (awk-proved) {VERSION}")?;
-    let lines = origin(rt)?;
-    let mut writer = io::writer(rt);
-    writer.write_all(&lines)?;
-    writer.flush()?;
+    print_text(rt, &origin(rt)?)?;
     Ok(0)
 }
 

@@ -32,3 +32,5 @@ pub mod SumArrays
 pub mod SumsMerged
 pub mod Summing
 pub mod Ways
+pub mod SumNames
+pub mod SumsFound

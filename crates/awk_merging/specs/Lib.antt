@@ -1,2 +1,2 @@
--- What a reader has to believe of the laws.
 pub mod definitions
+pub mod support

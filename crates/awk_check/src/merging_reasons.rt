@@ -1,0 +1,283 @@
+// Why a program that sums up isn't known to run in two stages.
+
+use crate::reasons::{
+    ItemScan, Part, behind_place, exchanged_elsewhere, finding_of, goes_on, is_between, is_set,
+    plain_finding, reason_of_function,
+};
+use awk_findings::Finding;
+use awk_findings::calls::{kind_before, kind_behind};
+use awk_lex::token::{AssignmentOperator, BuiltIn, IncrementOperator, Keyword, Kind, Token};
+use awk_merging::Sum;
+use awk_pieces::tells_apart;
+use std::alloc::{AllocError, Global};
+
+const NOT_KNOWN: &[u8] = b"not known to run in two stages: ";
+
+/// A scan for the first reason.
+#[derive(Clone, Copy)]
+struct MergingScan<'a> {
+    tokens: &'a [Token],
+    sums: &'a [Sum],
+    items: ItemScan,
+    /// Where the pattern that is open begins.
+    pattern: Option<usize>,
+}
+
+/// Whether a statement begins behind a token.
+fn begins_behind(kind: Option<&Kind>) -> bool {
+    matches!(
+        kind,
+        None | Some(
+            Kind::OpenBrace
+                | Kind::CloseBrace
+                | Kind::Newline
+                | Kind::Semicolon
+                | Kind::CloseParenthesis
+                | Kind::Keyword(Keyword::Else)
+        )
+    )
+}
+
+/// Whether a statement begins at a token that adds to the variable or element whose name stands there.
+fn is_addition(tokens: &[Token], at: usize) -> bool {
+    match kind_before(tokens, at, 1) {
+        Some(Kind::Increment(IncrementOperator::Increment)) => {
+            begins_behind(kind_before(tokens, at, 2))
+        }
+        kind => {
+            begins_behind(kind)
+                && matches!(
+                    behind_place(tokens, at),
+                    Some(
+                        Kind::Assign(AssignmentOperator::Add)
+                            | Kind::Increment(IncrementOperator::Increment)
+                    )
+                )
+        }
+    }
+}
+
+/// Why a built-in function in END is a reason.
+fn reason_of_call_in_end(function: BuiltIn) -> &'static [u8] {
+    match function {
+        BuiltIn::Length
+        | BuiltIn::Substr
+        | BuiltIn::Index
+        | BuiltIn::Sprintf
+        | BuiltIn::ToLower
+        | BuiltIn::ToUpper
+        | BuiltIn::Int => b"",
+        _ => b" in END",
+    }
+}
+
+impl<'a> MergingScan<'a> {
+    /// The sum of a name.
+    fn sum_of(&self, name: &[u8]) -> Option<&'a Sum> {
+        for sum in self.sums {
+            if sum.name() == name {
+                return Some(sum);
+            }
+        }
+        None
+    }
+
+    /// Why a name in a rule or a pattern is a reason.
+    fn reason_in_rule(&self, at: usize, name: &[u8]) -> &'static [u8] {
+        let is_set = is_set(self.tokens, at);
+        if self.sum_of(name).is_some() {
+            return match self.items.part {
+                Part::Rule if is_addition(self.tokens, at) => b"",
+                _ if is_set => b" is summed up, and set otherwise than by a statement += or ++",
+                _ => b" is summed up, and read for a record",
+            };
+        }
+        if tells_apart(name) {
+            return b" may be another on each piece";
+        }
+        if matches!(kind_behind(self.tokens, at, 1), Some(Kind::OpenBracket)) {
+            return b" is an array that is not summed up";
+        }
+        if is_set && name != b"NF".as_slice() {
+            return b" is assigned in a rule, and not summed up";
+        }
+        b""
+    }
+
+    /// Why a name in BEGIN is a reason.
+    fn reason_in_begin(&self, at: usize, name: &[u8]) -> &'static [u8] {
+        let is_set = is_set(self.tokens, at);
+        match kind_behind(self.tokens, at, 1) {
+            Some(Kind::OpenBracket) => b" is an array, in BEGIN",
+            Some(Kind::Assign(AssignmentOperator::Plain))
+                if begins_behind(kind_before(self.tokens, at, 1)) => {
+                match name {
+                    b"RS" | b"NF" => b" is set before the records",
+                    _ if tells_apart(name) => b" is set before the records",
+                    _ if self.sum_of(name).is_some() =>
+                        b" is summed up, and set before the records",
+                    _ => b"",
+                }
+            }
+            _ if is_set => b": in BEGIN names may be assigned by statements = alone",
+            _ => b"",
+        }
+    }
+
+    /// Why a name in END is a reason.
+    fn reason_in_end(&self, at: usize, name: &[u8]) -> &'static [u8] {
+        if is_set(self.tokens, at) {
+            return b" is assigned in END";
+        }
+        if tells_apart(name) || name == b"NF".as_slice() {
+            return b" is read in END";
+        }
+        let is_element = matches!(kind_behind(self.tokens, at, 1), Some(Kind::OpenBracket));
+        match self.sum_of(name) {
+            Some(Sum::ByKey(_)) => b"",
+            _ if is_element => b" is an array that is not summed up",
+            _ => b"",
+        }
+    }
+
+    /// Why a name is a reason.
+    fn reason_of_name(&self, at: usize, name: &[u8]) -> &'static [u8] {
+        match name {
+            b"merge_what" | b"merge_key" => b" is a name of the programs for the two stages",
+            _ => match self.items.part {
+                Part::Begin => self.reason_in_begin(at, name),
+                Part::End => self.reason_in_end(at, name),
+                _ => self.reason_in_rule(at, name),
+            },
+        }
+    }
+
+    /// Why a keyword in END is a reason.
+    fn reason_of_keyword_in_end(&self, at: usize, keyword: Keyword) -> &'static [u8] {
+        match keyword {
+            Keyword::If | Keyword::Else | Keyword::In => b"",
+            Keyword::For => match kind_behind(self.tokens, at, 3) {
+                Some(Kind::Keyword(Keyword::In)) => b"",
+                _ => b" in END, where it may go over the keys of a sum alone",
+            },
+            Keyword::Print | Keyword::Printf => match kind_behind(self.tokens, at, 1) {
+                Some(Kind::Newline | Kind::Semicolon | Kind::CloseBrace) => {
+                    b" without a list, in END"
+                }
+                _ => b"",
+            },
+            _ => b" in END",
+        }
+    }
+
+    /// Why a keyword is a reason.
+    fn reason_of_keyword(&self, at: usize, keyword: Keyword) -> &'static [u8] {
+        match keyword {
+            Keyword::Begin | Keyword::End => b"",
+            Keyword::Function => b" stands beside the rules",
+            Keyword::Getline => b" reads another input",
+            _ if self.items.part == Part::End => self.reason_of_keyword_in_end(at, keyword),
+            _ if self.items.part == Part::Begin => b" in BEGIN",
+            Keyword::If | Keyword::Else | Keyword::Next => b"",
+            Keyword::Exit | Keyword::NextFile => b" passes over the records behind",
+            _ => b" in a rule",
+        }
+    }
+
+    /// Why a call of a built-in function is a reason.
+    fn reason_of_call(
+        &self,
+        alloc: Global,
+        at: usize,
+        function: BuiltIn,
+    ) -> Result<&'static [u8], AllocError> {
+        let reason = reason_of_function(function);
+        if !reason.is_empty() {
+            return Ok(reason);
+        }
+        if self.items.part == Part::End {
+            return Ok(reason_of_call_in_end(function));
+        }
+        Ok(match function {
+            BuiltIn::Sub | BuiltIn::Gsub
+                if exchanged_elsewhere(alloc, self.tokens, at)?.is_some() =>
+                b" exchanges in what is no field",
+            _ => b"",
+        })
+    }
+
+    /// Why a token is a reason, behind its text, or nothing where it is none.
+    fn reason(&self, alloc: Global, at: usize, kind: &Kind) -> Result<&'static [u8], AllocError> {
+        Ok(match kind {
+            Kind::Name(name) => self.reason_of_name(at, name.as_slice()),
+            Kind::Keyword(keyword) => self.reason_of_keyword(at, *keyword),
+            Kind::BuiltIn(function) => self.reason_of_call(alloc, at, *function)?,
+            Kind::Dollar if self.items.part == Part::End => b" reads a field in END",
+            Kind::Ere(_) if self.items.part == Part::End => b" in END",
+            _ => self.items.reason(kind),
+        })
+    }
+
+    /// Where a pattern without an action begins that ends before a token.
+    fn lone_pattern(&self, at: usize, kind: &Kind) -> Option<usize> {
+        if self.items.lists > 0 || !matches!(kind, Kind::Newline | Kind::Semicolon) {
+            return None;
+        }
+        if goes_on(kind_before(self.tokens, at, 1)) {
+            return None;
+        }
+        self.pattern
+    }
+
+    /// Goes over a token.
+    fn step(&mut self, at: usize, kind: &Kind) {
+        self.items.step(kind);
+        if self.items.part != Part::Pattern {
+            self.pattern = None;
+        } else if !is_between(kind) && self.items.next == Part::Rule {
+            self.pattern = Some(self.pattern.unwrap_or(at));
+        }
+    }
+}
+
+/// A finding that answers no, with what is behind.
+pub(crate) fn plain_merging_finding(alloc: Global, reason: &[u8]) -> Result<Finding, AllocError> {
+    plain_finding(alloc, NOT_KNOWN, reason)
+}
+
+/// The first reason that is found why a program with these sums isn't known to run in two stages, and
+/// the plain one where its text has none.
+pub(crate) fn merging_finding(
+    alloc: Global,
+    text: &[u8],
+    tokens: &[Token],
+    sums: &[Sum],
+    plain: &[u8],
+) -> Result<Finding, AllocError> {
+    let mut scan = MergingScan {
+        tokens,
+        sums,
+        items: ItemScan::new(),
+        pattern: None,
+    };
+    for (at, token) in tokens.iter().enumerate() {
+        let reason = scan.reason(alloc, at, &token.kind)?;
+        if !reason.is_empty() {
+            return finding_of(alloc, text, token, NOT_KNOWN, reason);
+        }
+        if let Some(first) = scan
+            .lone_pattern(at, &token.kind)
+            .and_then(|at| tokens.get(at))
+        {
+            return finding_of(
+                alloc,
+                text,
+                first,
+                NOT_KNOWN,
+                b" begins a pattern without an action, which prints",
+            );
+        }
+        scan.step(at, &token.kind);
+    }
+    plain_merging_finding(alloc, plain)
+}

@@ -1,0 +1,5 @@
+pub mod CellKeys
+pub mod Kept
+pub mod Lines
+pub mod SumsOf
+pub mod WithSums

@@ -1,0 +1,204 @@
+// The sums of a program: where its rules add to.
+
+ghost use Rattle.std.specs.Prelude.{◌≡◌, bytes_eq, IfOk, OnOk};
+ghost use Rattle.std.specs.List.{list_any};
+ghost use Rattle.awk_grammar.specs.View as g;
+ghost use Rattle.awk_merging.specs.definitions.Sums.{name_of_sum, is_taken};
+ghost use Rattle.awk_merging.specs.definitions.Mergeable.{sum_of_place, sum_added_to, sums_in, sums_in_all, sums_in_item, sums_of_program, is_sum, is_array_sum, is_variable_sum};
+ghost use Rattle.awk_merging.specs.support.SumsOf.{sum_of, sums_of, is_array, is_variable};
+ghost use Rattle.awk_merging.specs.support.WithSums.{with_sum, with_sums};
+
+use awk_grammar::tree::{Expr, Item, SimpleStatement, Statement, Tree};
+use awk_lex::token::{AssignmentOperator, IncrementOperator};
+use awk_value::Bytes;
+use std::alloc::{AllocError, Global};
+
+/// Where a program sums up.
+#[derive(Drop)]
+pub enum Sum {
+    /// In an array, by its keys.
+    ByKey(Bytes),
+    /// In a variable.
+    Alone(Bytes),
+}
+
+impl Sum {
+    /// The name of the array or the variable.
+    pub fn name(&self) -> &[u8]
+        ensures { result.now ≡ name_of_sum (sum_of self.now) }
+    {
+        match self {
+            Sum::ByKey(name) | Sum::Alone(name) => name.as_slice(),
+        }
+    }
+
+    fn is_array(&self, name: &[u8]) -> bool
+        ensures { result ≡ is_array (sum_of self.now) name.now }
+    {
+        match self {
+            Sum::ByKey(array) => array.as_slice() == name,
+            Sum::Alone(_) => false,
+        }
+    }
+
+    fn is_variable(&self, name: &[u8]) -> bool
+        ensures { result ≡ is_variable (sum_of self.now) name.now }
+    {
+        match self {
+            Sum::ByKey(_) => false,
+            Sum::Alone(variable) => variable.as_slice() == name,
+        }
+    }
+}
+
+/// The names that no sum has: those of awk's own variables, and of the derived programs'.
+const TAKEN_NAMES: [&[u8]; 18] = [
+    b"ARGC",
+    b"CONVFMT",
+    b"FILENAME",
+    b"FNR",
+    b"FS",
+    b"NF",
+    b"NR",
+    b"OFMT",
+    b"OFS",
+    b"ORS",
+    b"RLENGTH",
+    b"RS",
+    b"RSTART",
+    b"SUBSEP",
+    b"ARGV",
+    b"ENVIRON",
+    b"merge_what",
+    b"merge_key",
+];
+
+fn is_among(names: &[&[u8]], name: &[u8]) -> bool
+    ensures { result ≡ list_any (λ other. bytes_eq name.now other.now) names.now }
+{
+    names.iter().any(|other| name == *other)
+}
+
+/// Whether the name is one that no sum has.
+pub(crate) fn is_taken(name: &[u8]) -> bool
+    ensures { result ≡ is_taken name.now }
+{
+    is_among(&TAKEN_NAMES, name)
+}
+
+/// Whether one of the sums has this name.
+pub(crate) fn is_sum(sums: &[Sum], name: &[u8]) -> bool
+    ensures { result ≡ is_sum (sums_of sums.now) name.now }
+{
+    sums.iter().any(|sum| sum.name() == name)
+}
+
+/// Whether one of the sums is this array's.
+pub(crate) fn is_array_sum(sums: &[Sum], name: &[u8]) -> bool
+    ensures { result ≡ is_array_sum (sums_of sums.now) name.now }
+{
+    sums.iter().any(|sum| sum.is_array(name))
+}
+
+/// Whether one of the sums is this variable's.
+pub(crate) fn is_variable_sum(sums: &[Sum], name: &[u8]) -> bool
+    ensures { result ≡ is_variable_sum (sums_of sums.now) name.now }
+{
+    sums.iter().any(|sum| sum.is_variable(name))
+}
+
+/// Adds a sum, unless its name is there already.
+fn add_sum(sums: &mut Vec<Sum>, sum: Sum) -> Result<(), AllocError>
+    ensures { OnOk result (sums_of sums.new.items ≡ with_sum (sums_of sums.old.items) (sum_of sum)) }
+{
+    if !is_sum(sums, sum.name()) {
+        sums.push(sum)?;
+    }
+    Ok(())
+}
+
+/// Adds the sum of a place, where it is an element or a variable that isn't awk's own.
+fn add_place(sums: &mut Vec<Sum>, place: &Expr) -> Result<(), AllocError>
+    ensures { OnOk result (sums_of sums.new.items ≡
+        with_sums (sums_of sums.old.items) (sum_of_place (g.expr_of place.now))) }
+{
+    match place {
+        Expr::Element(array, _) => {
+            if is_taken(array.as_slice()) {
+                return Ok(());
+            }
+            add_sum(sums, Sum::ByKey(array.clone()?))
+        }
+        Expr::Name(variable) => {
+            if is_taken(variable.as_slice()) {
+                return Ok(());
+            }
+            add_sum(sums, Sum::Alone(variable.clone()?))
+        }
+        _ => Ok(()),
+    }
+}
+
+/// Adds the sum that an expression adds to, where it does.
+fn add_of_expression(sums: &mut Vec<Sum>, e: &Expr) -> Result<(), AllocError>
+    ensures { OnOk result (sums_of sums.new.items ≡
+        with_sums (sums_of sums.old.items) (sum_added_to (g.expr_of e.now))) }
+{
+    match e {
+        Expr::Assign(AssignmentOperator::Add, place, _) => add_place(sums, place),
+        Expr::PreIncrement(IncrementOperator::Increment, place)
+        | Expr::PostIncrement(IncrementOperator::Increment, place) => add_place(sums, place),
+        _ => Ok(()),
+    }
+}
+
+#[cycle(statements)]
+fn add_of_statement(sums: &mut Vec<Sum>, s: &Statement) -> Result<(), AllocError>
+    ensures { OnOk result (sums_of sums.new.items ≡
+        with_sums (sums_of sums.old.items) (sums_in (g.statement_of s.now))) }
+{
+    match s {
+        Statement::Simple(SimpleStatement::Expression(e)) => add_of_expression(sums, e),
+        Statement::Block(all) => add_of_all(sums, all),
+        Statement::If(_, s) => add_of_statement(sums, s),
+        Statement::IfElse(_, s, other) => {
+            add_of_statement(sums, s)?;
+            add_of_statement(sums, other)
+        }
+        _ => Ok(()),
+    }
+}
+
+#[cycle(statements)]
+fn add_of_all(sums: &mut Vec<Sum>, all: &[Statement]) -> Result<(), AllocError>
+    ensures { OnOk result (sums_of sums.new.items ≡
+        with_sums (sums_of sums.old.items) (sums_in_all (g.statements_of all.now))) }
+{
+    for s in all {
+        add_of_statement(sums, s)?;
+    }
+    Ok(())
+}
+
+fn add_of_item(sums: &mut Vec<Sum>, item: &Item) -> Result<(), AllocError>
+    ensures { OnOk result (sums_of sums.new.items ≡
+        with_sums (sums_of sums.old.items) (sums_in_item (g.item_of item.now))) }
+{
+    match item {
+        Item::Action(block) | Item::PatternAction(_, block) => add_of_all(sums, block),
+        _ => Ok(()),
+    }
+}
+
+/// The sums of a program, each once, in the order of its text: the arrays and variables that its rules add to by
+/// `+=` and `++`, without those that are awk's own or a derived program's. Of an array and a variable of one name the
+/// one that comes first is a sum. Fails only where memory is refused.
+pub fn sums_of(alloc: Global, tree: &Tree) -> Result<Vec<Sum>, AllocError>
+    ensures { IfOk result (λ sums. sums_of sums.items ≡ sums_of_program (g.tree_of tree.now)) }
+{
+    let mut sums = Vec::new(alloc);
+    for item in tree.items.as_slice() {
+        add_of_item(&mut sums, item)?;
+    }
+    Ok(sums)
+}
