@@ -1,4 +1,4 @@
-"""Random inputs, cut behind newlines, and what is run over them: read by merging.py and pieces.py."""
+"""Random inputs, cut behind newlines, what is run over them, and choices of programs: read by merging.py and pieces.py."""
 import os
 import subprocess
 
@@ -7,6 +7,26 @@ AWK = os.environ.get("EXECUTABLE", f"{ROOT}/awk")
 CHECK = os.environ.get("AWK_CHECK", f"{ROOT}/awk-check")
 WORDS = ["a", "b", "ab", "b a", "", "0", "7", "07", "-3", "12", "x:y", "\\", "%s", '"q"', "merge_what", "n", "s", "\t", "\u00e9"]
 COMMENTS = ["# } a brace", "# END { print }", '# "text', "#", "# /"]
+
+
+class Choices:
+    """What one program is written by."""
+
+    def __init__(self, numbers):
+        self.numbers = numbers
+        self.pick = numbers.choice
+
+    def chance(self, part):
+        return self.numbers.randrange(part) == 0
+
+    def test_of(self, value, depth):
+        """A test of the record, and of what `value` writes."""
+        kind = self.numbers.randrange(6)
+        if kind == 0:
+            return self.pick(["/b/", "/[{}]/", "/\\/|a/", "!/x/", "$1 ~ /^[a-c]/"])
+        if kind == 1 and depth > 0:
+            return f"{self.test_of(value, depth - 1)} {self.pick(['&&', '||'])} {self.test_of(value, depth - 1)}"
+        return f"{value()} {self.pick(['==', '!=', '<', '<=', '>=', '>'])} {value()}"
 
 
 def input_of(numbers):

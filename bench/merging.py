@@ -14,23 +14,19 @@ import sys
 import tempfile
 
 sys.dont_write_bytecode = True
-from inputs import AWK, CHECK, COMMENTS, input_of, pieces_of, run
+from inputs import AWK, CHECK, COMMENTS, Choices, input_of, pieces_of, run
 
 ARRAYS, VARIABLES = ["n", "bytes", "by_day"], ["s", "count", "m2"]
 
 
-class Writer:
+class Writer(Choices):
     """Writes one program."""
 
     def __init__(self, numbers):
-        self.numbers = numbers
-        self.pick = numbers.choice
+        super().__init__(numbers)
         self.arrays = numbers.sample(ARRAYS, numbers.randint(0, 3))
         self.variables = numbers.sample(VARIABLES, numbers.randint(0 if self.arrays else 1, 3))
         self.pairs = [name for name in self.arrays if numbers.randrange(3) == 0]
-
-    def chance(self, part):
-        return self.numbers.randrange(part) == 0
 
     # What a record gives.
 
@@ -60,12 +56,7 @@ class Writer:
         return self.pick(["$2", "$3", "1", "NF", "length", "2 * $2", "($1 == \"a\")", "index($0, \"b\")", "-1", "$2 + limit"])
 
     def test(self, depth):
-        kind = self.numbers.randrange(6)
-        if kind == 0:
-            return self.pick(["/b/", "/[{}]/", "/\\/|a/", "!/x/", "$1 ~ /^[a-c]/"])
-        if kind == 1 and depth > 0:
-            return f"{self.test(depth - 1)} {self.pick(['&&', '||'])} {self.test(depth - 1)}"
-        return f"{self.of_record(0)} {self.pick(['==', '!=', '<', '<=', '>=', '>'])} {self.of_record(0)}"
+        return self.test_of(lambda: self.of_record(0), depth)
 
     # Rules.
 

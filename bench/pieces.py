@@ -14,23 +14,19 @@ import sys
 import tempfile
 
 sys.dont_write_bytecode = True
-from inputs import AWK, CHECK, COMMENTS, input_of, pieces_of, run
+from inputs import AWK, CHECK, COMMENTS, Choices, input_of, pieces_of, run
 
 VARIABLES = ["s", "t", "n", "out"]
 
 
-class Writer:
+class Writer(Choices):
     """Writes one program. What is known where a statement stands are the variables that were set before it."""
 
     def __init__(self, numbers):
-        self.numbers = numbers
-        self.pick = numbers.choice
+        super().__init__(numbers)
         self.depth = 0
         # (a program that breaks the rules in some places; most are refused)
         self.is_careless = self.chance(4)
-
-    def chance(self, part):
-        return self.numbers.randrange(part) == 0
 
     # What a record gives.
 
@@ -67,12 +63,7 @@ class Writer:
         return self.change(known, True)
 
     def test(self, known, depth=1):
-        kind = self.numbers.randrange(6)
-        if kind == 0:
-            return self.pick(["/b/", "/[{}]/", "/\\/|a/", "!/x/", "$1 ~ /^[a-c]/"])
-        if kind == 1 and depth > 0:
-            return f"{self.test(known, depth - 1)} {self.pick(['&&', '||'])} {self.test(known, depth - 1)}"
-        return f"{self.value(known, 0)} {self.pick(['==', '!=', '<', '<=', '>=', '>'])} {self.value(known, 0)}"
+        return self.test_of(lambda: self.value(known, 0), depth)
 
     def exchange(self, known):
         target = self.pick(["", f", {self.place(known)}", f", {self.place(known)}"])

@@ -11,18 +11,10 @@ export LC_ALL=C
 rounds=${1:-3} megabytes=${2:-1000} jobs=${3:-4}
 . "$(dirname "$0")/executable.sh"
 . "$root/bench/rounds.sh"
+. "$root/bench/log.sh"
 names='one pieces'
 # `awk-check --pieces` answers yes of it. It prints a quarter of the lines.
 program=$root/examples/errors.awk
-
-# Two megabytes, 40,000 lines of 50 bytes, as often as is needed.
-seq 10000 49999 |
-    sed 's/^\(.\)\(.\)\(.\)\(.\)\(.\)$/192.0.2.\3 [1\1:\2\3:\4\5] GET \/page\/&.html \10\5 \2\3\4/' >"$work/part"
-count=$(((megabytes + 1) / 2))
-while [ "$count" -gt 0 ]; do
-    count=$((count - 1))
-    cat "$work/part"
-done >"$work/log"
 
 # Runs it in one way, and notes the seconds.
 measure() {

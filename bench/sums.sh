@@ -13,16 +13,8 @@ export LC_ALL=C
 rounds=${1:-3} megabytes=${2:-2000} jobs=${3:-4}
 . "$(dirname "$0")/executable.sh"
 . "$root/bench/rounds.sh"
+. "$root/bench/log.sh"
 checker=${CHECKER:-$root/out/awk-check}
-
-# Two megabytes, 40,000 lines of 50 bytes, as often as is needed: ten hosts, and 40,000 pairs of a host and a page.
-seq 10000 49999 |
-    sed 's/^\(.\)\(.\)\(.\)\(.\)\(.\)$/192.0.2.\3 [1\1:\2\3:\4\5] GET \/page\/&.html \10\5 \2\3\4/' >"$work/part"
-count=$(((megabytes + 1) / 2))
-while [ "$count" -gt 0 ]; do
-    count=$((count - 1))
-    cat "$work/part"
-done >"$work/log"
 
 cat >"$work/hosts.awk" <<'AWK'
 { n[$1]++ } END { for (host in n) print host, n[host] }
