@@ -6,16 +6,17 @@ use Rattle.awk_value.specs.declared.value.Value.{Value}
 use Rattle.awk_value.specs.declared.value.Value.TheVariants as value
 use Rattle.awk_value.specs.Values.{str_of}
 use Rattle.awk_semantics.specs.declared.halt.Halt.{Halt}
-use Rattle.awk_semantics.specs.State.{Run, lift}
+use Rattle.awk_semantics.specs.State.{State, Run, ◌>>=◌, lift, ret}
 use Rattle.awk_storage.specs.declared.position.Array.{Array}
 use Rattle.awk_storage.specs.declared.position.Variable.{Variable}
 use Rattle.awk_storage.specs.declared.position.Place.{Place}
 use Rattle.awk_storage.specs.declared.position.Place.TheVariants as place
 use Rattle.awk_storage.specs.Positions.{read_at, assign_by_at}
+use Rattle.awk_resolve.specs.declared.node.Key.{Key}
 use Rattle.awk_resolve.specs.declared.node.Operand.{Operand}
 use Rattle.awk_resolve.specs.declared.node.Target.{Target}
 use Rattle.awk_resolve.specs.declared.node.Target.TheVariants as target
-use Rattle.awk_resolve.specs.Nodes.{operand_value, operand_values, taken, append_operands_at, append_operands, append_by_step}
+use Rattle.awk_resolve.specs.Nodes.{operand_value, operand_values, append_operands_at, append_operands, append_by_step}
 use Rattle.awk_runtime.specs.declared.runtime.Runtime.{Runtime}
 use Rattle.awk_runtime.specs.Naming.{Naming}
 use Rattle.awk_runtime.specs.Simulation.{Changes, Spends}
@@ -25,12 +26,11 @@ use Rattle.awk_runtime.proofs.Composition.{then_changes, ends_changes, lift_chan
 use Rattle.awk_evaluator.specs.declared.machine.Machine.{Machine}
 use Rattle.awk_evaluator.specs.Operands.{OperandsView}
 use Rattle.awk_evaluator.specs.Moves.{Done, Keeps}
-use Rattle.awk_evaluator.specs.Reading.{ReadsOperand, PutsValues, PutsOperands}
-use Rattle.awk_evaluator.specs.Appending.{Leaves, AppendsOperands, SpendsAndAppends, AppendsAt, AppendsBehind, AppendsBytes, Joins}
+use Rattle.awk_evaluator.specs.Reading.{Leaves, ReadsKey, ReadsJoined}
+use Rattle.awk_evaluator.specs.Appending.{AppendsOperands, SpendsAndAppends, AppendsAt, AppendsBehind, AppendsBytes, Joins}
 use Rattle.awk_runtime.proofs.Steps.{same_changes}
-use Rattle.awk_resolve.proofs.Calculus.{given}
+use Rattle.awk_resolve.proofs.Calculus.{assoc_at, later_same, given}
 use Rattle.awk_evaluator.proofs.Changing.{variable_alike}
-use Rattle.awk_evaluator.proofs.OperandPrints.{own_taken, own_dropped}
 
 -- several, one behind the other
 
@@ -57,7 +57,7 @@ module _ (list : List Operand) {text : List ℕ} {m : Machine} (j : Joins list m
   pub variable_appended : (x : Variable) {m' : Machine} → AppendsIn (place.Variable x) value.Nothing text m.runtime m'.runtime → m'.operands ≡ m.operands → m'.calls ≡ m.calls → Done (λ r. AppendsOperands (target.Variable x) list m r m') (Ok tt)
   variable_appended x h operands calls = record { done = (h.after, record { operands = operands; calls = calls; changes = appended_at (place.Variable x) value.Nothing h }) }
 
-  pub element_appended : (a : Array) (key : Operand) {m' : Machine} → AppendsBytes a key text m m' → Done (λ r. AppendsOperands (target.Element a key) list m r m') (Ok tt)
+  pub element_appended : (a : Array) (key : Key) {m' : Machine} → AppendsBytes a key text m m' → Done (λ r. AppendsOperands (target.Element a key) list m r m') (Ok tt)
   element_appended a key h = record { done = (h.appends.after, record { operands = h.operands; calls = h.calls; changes = then_changes _ h.at_hand.changes (appended_at (place.Element a) h.key h.appends) }) }
 
 -- where nothing else changes before and behind it
@@ -127,63 +127,47 @@ module _ (p : Place) (key old behind : Value) {m : Runtime} where
   pub place_unjoined : {h : Halt} → Changes (lift (Ok (both old behind))) m m (Err h) → Changes (assign_by_at m.names.scalars None p key (both old behind)) m m (Err h)
   place_unjoined text = same_changes _ _ (λ s holds. sym (given (both old behind) (λ y. assign_by_at m.names.scalars None p key y) s)) (ends_changes (λ y. assign_by_at m.names.scalars None p key y) text)
 
--- the operands were put on the stack
+-- the operands were read, one behind the other
+
+module _ (p : Place) (key old : Value) (list : List Operand) where
+  abbrev assign_texts : Naming → List Value → Run Value
+  assign_texts names ws = assign_by_at names.scalars None p key (value.Text (str_of old ++ concat (map str_of ws)))
+
+  abbrev put_text : Naming → Value → Run Value
+  put_text names t = assign_by_at names.scalars None p key (both old t)
+
+  -- the text of the operands is a value between
+  between : (names : Naming) (s : State) → ((operand_values names.scalars list >>= λ ws. ret (value.Text (concat (map str_of ws)))) >>= put_text names) s ≡ (operand_values names.scalars list >>= assign_texts names) s
+  between names s =
+      assoc_at (operand_values names.scalars list) (λ ws. ret (value.Text (concat (map str_of ws)))) (put_text names) s
+      ∙ later_same (operand_values names.scalars list) _ (assign_texts names) s (λ ws u. given (value.Text (concat (map str_of ws))) (put_text names) u)
 
 module _ (p : Place) (key : Value) (list : List Operand) (m : Machine) {m1 m2 : Machine} {old : Value} (read : Changes (read_at m.runtime.names.scalars p key) m.runtime m1.runtime (Ok old)) where
-  pub values_unread : {h : Halt} → PutsOperands list m1 (Err h) m2 → AppendsAt p key list m (Err h) m2
-  values_unread {h = h} q = ends_leaves (then_changes _ read (ends_changes _ (subst (λ (n : Naming). Changes (operand_values n.scalars list) m1.runtime m2.runtime (Err h)) read.names q.puts)))
+  pub values_unread : {h : Halt} → ReadsJoined list m1 (Err h) m2 → AppendsAt p key list m (Err h) m2
+  values_unread {h = h} q =
+      let names = m.runtime.names in
+      let unread = subst (λ (n : Naming). Changes (operand_values n.scalars list >>= λ ws. ret (value.Text (concat (map str_of ws)))) m1.runtime m2.runtime (Err h)) read.names q.changes in
+      ends_leaves (then_changes _ read (same_changes _ _ (λ s holds. sym (between p key old list names s)) (ends_changes (put_text p key old list names) unread)))
 
-  module _ (q : PutsOperands list m1 (Ok tt) m2) {vs : List Value} (are : vs ≡ taken (length list) m2.operands.values) where
-    abbrev ws : List Value
-    ws = q.puts.0
+  module _ {b : Value} (q : ReadsJoined list m1 (Ok b) m2) (same : m1.operands ≡ m.operands) (calls : m1.calls ≡ m.calls) (m' : Machine) where
+    assigned : (r : Result Value Halt) → AppendsBehind p key old b m2 r m' → Changes (append_operands_at m.runtime.names.scalars p key list) m.runtime m'.runtime r
+    assigned r h =
+        let names = m.runtime.names in
+        let text = subst (λ (n : Naming). Changes (operand_values n.scalars list >>= λ ws. ret (value.Text (concat (map str_of ws)))) m1.runtime m2.runtime (Ok b)) read.names q.changes in
+        let assigns = subst (λ (n : Naming). Changes (put_text p key old list n b) m2.runtime m'.runtime r) (q.changes.names ∙ read.names) h.changes in
+        then_changes _ read (same_changes _ _ (λ s holds. sym (between p key old list names s)) (then_changes (put_text p key old list names) text assigns))
 
-    put : PutsValues list ws m1 m2
-    put = q.puts.1
+    pub values_behind : (r : Result Value Halt) → AppendsBehind p key old b m2 r m' → AppendsAt p key list m r m'
+    values_behind (Ok w) h = record { operands = h.operands ∙ q.operands ∙ same; calls = h.calls ∙ q.calls ∙ calls; changes = assigned (Ok w) h }
+    values_behind (Err e) h = record { operands = tt; calls = tt; changes = assigned (Err e) h }
 
-    are_own : vs ≡ ws
-    are_own = are ∙ ap (λ (o : OperandsView). taken (length list) o.values) put.operands ∙ own_taken ws m1.operands.values (length list) put.count
+-- the element at a key that was read
 
-    abbrev behind : List Value → Value → Value
-    behind l t = value.Text (str_of t ++ concat (map str_of l))
-
-    at_place : {m' : Runtime} {r : Result Value Halt} → Changes (assign_by_at m2.runtime.names.scalars None p key (behind vs old)) m2.runtime m' r → Changes (append_operands_at m.runtime.names.scalars p key list) m.runtime m' r
-    at_place {m' = m'} {r = r} h =
-        let own = subst (λ (l : List Value). Changes (assign_by_at m2.runtime.names.scalars None p key (behind l old)) m2.runtime m' r) are_own h in
-        let values = subst (λ (n : Naming). Changes (operand_values n.scalars list) m1.runtime m2.runtime (Ok ws)) read.names put.changes in
-        let assigns = subst (λ (n : Naming). Changes (assign_by_at n.scalars None p key (behind ws old)) m2.runtime m' r) (put.changes.names ∙ read.names) own in
-        then_changes _ read (then_changes _ values assigns)
-
-    abbrev text : Value
-    text = value.Text (concat (map str_of vs))
-
-    pub values_unjoined : {h : Halt} → Changes (lift (Ok text)) m2.runtime m2.runtime (Err h) → AppendsAt p key list m (Err h) m2
-    values_unjoined h =
-        let put_text : Value → Run Value = λ t. assign_by_at m2.runtime.names.scalars None p key (both old t) in
-        ends_leaves (at_place (same_changes _ _ (λ s holds. sym (given text put_text s)) (ends_changes put_text h)))
-
-    module _ {b : Value} (joined : Changes (lift (Ok text)) m2.runtime m2.runtime (Ok b)) (same : m1.operands ≡ m.operands) (calls : m1.calls ≡ m.calls) (m3 m' : Machine) (dropped : m3.operands ≡ record m2.operands { values = drop (length list) m2.operands.values }) (calls3 : m3.calls ≡ m2.calls) (runtime : m3.runtime ≡ m2.runtime) where
-      left : m3.operands ≡ m.operands
-      left =
-          let cut : OperandsView → OperandsView = λ o. record o { values = drop (length list) o.values } in
-          let all : List Value → OperandsView = λ l. record m1.operands { values = l } in
-          dropped ∙ ap cut put.operands ∙ ap all (own_dropped ws m1.operands.values (length list) put.count) ∙ same
-
-      assigned : (r : Result Value Halt) → AppendsBehind p key old b m3 r m' → Changes (append_operands_at m.runtime.names.scalars p key list) m.runtime m'.runtime r
-      assigned r h =
-          let put_text : Value → Run Value = λ t. assign_by_at m2.runtime.names.scalars None p key (both old t) in
-          at_place (same_changes _ _ (λ s holds. sym (given text put_text s)) (then_changes put_text joined (subst (λ (x : Runtime). Changes (assign_by_at x.names.scalars None p key (both old b)) x m'.runtime r) runtime h.changes)))
-
-      pub values_behind : (r : Result Value Halt) → AppendsBehind p key old b m3 r m' → AppendsAt p key list m r m'
-      values_behind (Ok w) h = record { operands = h.operands ∙ left; calls = h.calls ∙ calls3 ∙ put.calls ∙ calls; changes = assigned (Ok w) h }
-      values_behind (Err e) h = record { operands = tt; calls = tt; changes = assigned (Err e) h }
-
--- the element at an operand that was read
-
-module _ (a : Array) (key : Operand) (list : List Operand) {m m1 : Machine} where
-  pub key_unread : {h : Halt} → ReadsOperand key m (Err h) m1 → AppendsOperands (target.Element a key) list m (Err h) m1
+module _ (a : Array) (key : Key) (list : List Operand) {m m1 : Machine} where
+  pub key_unread : {h : Halt} → ReadsKey key m (Err h) m1 → AppendsOperands (target.Element a key) list m (Err h) m1
   key_unread read = ends_leaves (ends_changes _ read.changes)
 
-  pub key_read : {k : Value} {m' : Machine} (r : Result Value Halt) → ReadsOperand key m (Ok k) m1 → AppendsAt (place.Element a) k list m1 r m' → AppendsOperands (target.Element a key) list m r m'
+  pub key_read : {k : Value} {m' : Machine} (r : Result Value Halt) → ReadsKey key m (Ok k) m1 → AppendsAt (place.Element a) k list m1 r m' → AppendsOperands (target.Element a key) list m r m'
   key_read {k = k} {m' = m'} r read h = by r h
     where
       changed : (q : Result Value Halt) → AppendsAt (place.Element a) k list m1 q m' → Changes (append_operands m.runtime.names.scalars (target.Element a key) list) m.runtime m'.runtime q

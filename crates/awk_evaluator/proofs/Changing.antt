@@ -133,18 +133,18 @@ module _ {is_logged : Type 0} {plan : Plan} where
     ran_ends : {m m' : Machine} {k : WorldState} {h : Halt} → ((tables : Tables) → Changes (run (tables_in m.runtime.names tables)) m.runtime m'.runtime (Err h)) → Ends is_logged plan (AtNode node) m k (Err h) m' k
     ran_ends {m = m} changes = ends_on (λ tables functions. run tables) (λ tables ds b _. cont tables ds plan b i m.operands.values) (λ tables ds b. is tables ds b m.operands.values) (λ tables functions. change_simulates (changes tables))
 
-  module _ {variable : Variable} {i : ℕ} {m m' : Machine} {k : WorldState} where
-    pub update_on : {o : AssignmentOperator} {a : Operand} {w : Value} → Updates o variable a m (Ok w) m' → Moves is_logged plan (AtNode (n.Update o variable a i)) m k (move.On i) m' k
-    update_on {o = o} {a = a} u = ran_on (λ tables. update tables.names o variable a) (λ at low. low) (λ tables ds b vs. refl) u.operands u.calls (λ tables. u.changes)
+  module _ {t : Target} {i : ℕ} {m m' : Machine} {k : WorldState} where
+    pub update_on : {o : AssignmentOperator} {a : Operand} {w : Value} → Updates o t a m (Ok w) m' → Moves is_logged plan (AtNode (n.Update o t a i)) m k (move.On i) m' k
+    update_on {o = o} {a = a} u = ran_on (λ tables. update tables.names o t a) (λ at low. low) (λ tables ds b vs. refl) u.operands u.calls (λ tables. u.changes)
 
-    pub update_ends : {o : AssignmentOperator} {a : Operand} {h : Halt} → Updates o variable a m (Err h) m' → Ends is_logged plan (AtNode (n.Update o variable a i)) m k (Err h) m' k
-    update_ends {o = o} {a = a} u = ran_ends {node = n.Update o variable a i} (λ tables. update tables.names o variable a) (λ at low. low) (λ tables ds b vs. refl) (λ tables. u.changes)
+    pub update_ends : {o : AssignmentOperator} {a : Operand} {h : Halt} → Updates o t a m (Err h) m' → Ends is_logged plan (AtNode (n.Update o t a i)) m k (Err h) m' k
+    update_ends {o = o} {a = a} u = ran_ends {node = n.Update o t a i} (λ tables. update tables.names o t a) (λ at low. low) (λ tables ds b vs. refl) (λ tables. u.changes)
 
-    pub increment_on : {o : IncrementOperator} {w : Value} → Increments o variable m (Ok w) m' → Moves is_logged plan (AtNode (n.Increment o variable i)) m k (move.On i) m' k
-    increment_on {o = o} u = ran_on (λ tables. increment tables.names o variable) (λ at low. low) (λ tables ds b vs. refl) u.operands u.calls (λ tables. u.changes)
+    pub increment_on : {o : IncrementOperator} {w : Value} → Increments o t m (Ok w) m' → Moves is_logged plan (AtNode (n.Increment o t i)) m k (move.On i) m' k
+    increment_on {o = o} u = ran_on (λ tables. increment tables.names o t) (λ at low. low) (λ tables ds b vs. refl) u.operands u.calls (λ tables. u.changes)
 
-    pub increment_ends : {o : IncrementOperator} {h : Halt} → Increments o variable m (Err h) m' → Ends is_logged plan (AtNode (n.Increment o variable i)) m k (Err h) m' k
-    increment_ends {o = o} u = ran_ends {node = n.Increment o variable i} (λ tables. increment tables.names o variable) (λ at low. low) (λ tables ds b vs. refl) (λ tables. u.changes)
+    pub increment_ends : {o : IncrementOperator} {h : Halt} → Increments o t m (Err h) m' → Ends is_logged plan (AtNode (n.Increment o t i)) m k (Err h) m' k
+    increment_ends {o = o} u = ran_ends {node = n.Increment o t i} (λ tables. increment tables.names o t) (λ at low. low) (λ tables ds b vs. refl) (λ tables. u.changes)
 
   module _ {i : ℕ} {m m' : Machine} {k : WorldState} where
     pub append_operands_on : {t : Target} {list : Vec Operand} {w : Value} → SpendsAndAppends t list.items m (Ok w) m' → Moves is_logged plan (AtNode (n.AppendOperands t list i)) m k (move.On i) m' k

@@ -13,6 +13,7 @@ pub mod Joining
 pub mod Substituting
 pub mod Quickly
 pub mod QuickMoves
+pub mod ReadFields
 pub mod CallMoves
 pub mod Returning
 pub mod KeysTaken
@@ -21,3 +22,4 @@ pub mod CallBegins
 pub mod Computing
 pub mod SoundPlans
 mod Appending
+mod Keys

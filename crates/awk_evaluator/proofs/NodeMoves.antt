@@ -30,8 +30,8 @@ use Rattle.awk_evaluator.specs.declared.machine.Move.{Move}
 use Rattle.awk_evaluator.specs.declared.machine.Move.TheVariants as move
 use Rattle.awk_evaluator.specs.Rest.{IsSound, PlanStands, tables_in, Start, AtPlace, AtNode}
 use Rattle.awk_evaluator.specs.Moves.{RestOf, Leads, Ends, Upward, Finishes, Moves, Turns, Steps, Computes, Evaluates, Performs, GivesBack, PutsFoundBy, PutsFound, Done, came, told, onward, upward, toward}
-use Rattle.awk_evaluator.specs.Reading.{Runs, Compares, Updates, Increments, Appends, PrintsOperands}
-use Rattle.awk_evaluator.specs.Appending.{Leaves, SpendsAndAppends}
+use Rattle.awk_evaluator.specs.Reading.{Leaves, Runs, Compares, Updates, Increments, Appends, PrintsOperands}
+use Rattle.awk_evaluator.specs.Appending.{SpendsAndAppends}
 use Rattle.awk_evaluator.specs.Walks.{PutsKeys, TakesKey}
 use Rattle.awk_evaluator.proofs.Moving.{by_place, past_end, halts, ready_computed, led_on, led_ends, value_on, value_memory, effect_on, effect_ends, again_on, again_stuck, key_on, key_stuck, walk_on, walk_ends, key_taken, key_ends}
 use Rattle.awk_evaluator.proofs.Changing.{with_on, with_ends, compared_on, compared_ends, matched_on, matched_ends, assign_on, assign_ends, raise_on, raise_ends, append_on, append_ends, append_operands_on, append_operands_ends, print_on, print_ends, update_on, update_ends, increment_on, increment_ends}
@@ -62,10 +62,10 @@ module _ {is_logged : Type 0} {plan : Plan} {m m' : Machine} {k k' : WorldState}
       by move.Halted g = halts {m1 = m'} (value_memory e p.runtime) refl g
 
 module _ {is_logged : Type 0} {plan : Plan} {m m' : Machine} {k : WorldState} {i : ℕ} where
-  pub update_moves : {o : AssignmentOperator} {x : Variable} {a : Operand} (done : Bool) → Done (λ r. Updates o x a m r m') (came done m') → Moves is_logged plan (AtNode (n.Update o x a i)) m k (onward done i) m' k
+  pub update_moves : {o : AssignmentOperator} {t : Target} {a : Operand} (done : Bool) → Done (λ r. Updates o t a m r m') (came done m') → Moves is_logged plan (AtNode (n.Update o t a i)) m k (onward done i) m' k
   update_moves done d = behind done d (λ w u. update_on u) (λ h u. update_ends u)
 
-  pub increment_moves : {o : IncrementOperator} {x : Variable} (done : Bool) → Done (λ r. Increments o x m r m') (came done m') → Moves is_logged plan (AtNode (n.Increment o x i)) m k (onward done i) m' k
+  pub increment_moves : {o : IncrementOperator} {t : Target} (done : Bool) → Done (λ r. Increments o t m r m') (came done m') → Moves is_logged plan (AtNode (n.Increment o t i)) m k (onward done i) m' k
   increment_moves done d = behind done d (λ w u. increment_on u) (λ h u. increment_ends u)
 
   pub assign_moves : {o : AssignmentOperator} {p : Place} (done : Bool) → Done (λ r. Computes (v.Assign o p) m r m') (came done m') → Moves is_logged plan (AtNode (n.Assign o p i)) m k (onward done i) m' k

@@ -1,4 +1,6 @@
 -- Parts of moves whose value is of no use, and which may halt the machine.
+use Rattle.std.specs.Prelude.{OnOk}
+use Rattle.awk_semantics.specs.Primitives.{spend}
 use Rattle.std.proofs.Common.{◌≡◌, ℕ, ℤ, Bool, None, List, drop, Result, Ok, Err, refl, sym, ap, ◌∙◌, subst}
 use Rattle.awk_value.specs.declared.value.Value.{Value}
 use Rattle.awk_value.specs.declared.value.Value.TheVariants as value
@@ -17,10 +19,12 @@ use Rattle.awk_storage.specs.declared.position.Place.TheVariants as place
 use Rattle.awk_storage.specs.Positions.{put_variable, assign_by_at, post_increment_at}
 use Rattle.awk_storage.specs.Forms.{keys_of_array}
 use Rattle.awk_resolve.specs.declared.node.Operand.{Operand}
+use Rattle.awk_resolve.specs.declared.node.Target.{Target}
+use Rattle.awk_resolve.specs.declared.node.Target.TheVariants as target
 use Rattle.awk_resolve.specs.declared.node.ValueNode.{ValueNode}
 use Rattle.awk_resolve.specs.declared.node.ValueNode.TheVariants as v
 use Rattle.awk_resolve.specs.declared.node.EffectNode.{EffectNode}
-use Rattle.awk_resolve.specs.Nodes.{Tables, popped, first, second, taken, value_of, effect_of, operand_value, operated_with, assign_variable, append_to, print_operands}
+use Rattle.awk_resolve.specs.Nodes.{Tables, popped, first, second, taken, value_of, effect_of, operated_with, assign_variable, assign_target, raise_target, append_to, print_operands}
 use Rattle.awk_runtime.specs.declared.runtime.Runtime.{Runtime}
 use Rattle.awk_runtime.specs.Naming.{Naming}
 use Rattle.awk_runtime.specs.Simulation.{Simulates, Changes, Spends}
@@ -29,7 +33,7 @@ use Rattle.awk_runtime.specs.support.Updates.{GivesNumber, Gives}
 use Rattle.awk_evaluator.specs.declared.machine.Machine.{Machine}
 use Rattle.awk_evaluator.specs.Rest.{tables_in}
 use Rattle.awk_evaluator.specs.Moves.{Computes, Performs, Keeps, DoneBy, Done, without_value, truth_in}
-use Rattle.awk_evaluator.specs.Reading.{Runs, AssignsOperand, Raises, ComparesBy, Compares, Updates, Increments, Appends, PrintsOperands}
+use Rattle.awk_evaluator.specs.Reading.{Runs, Leaves, AssignsOperand, AssignsTarget, Raises, ComparesBy, Compares, Updates, Increments, Appends, PrintsOperands}
 use Rattle.awk_evaluator.specs.Walks.{PutsKeysBy, PutsKeys, TakesKey}
 use Rattle.awk_evaluator.specs.Quick.{IsAtHand, Popped, Relates, RelatesWith, AssignsAlike}
 use Rattle.awk_evaluator.proofs.Changing.{variable_alike}
@@ -235,47 +239,48 @@ number_read o x at g operands calls = record { done = (value.Number g.number, re
 
 -- behind a step that was spent
 
-module _ {m m1 : Machine} (s : Spends m.runtime m1.runtime (Ok tt)) (operands : m1.operands ≡ m.operands) (calls : m1.calls ≡ m.calls) (o : AssignmentOperator) (x : Variable) (a : Operand) where
-  spent_update : {m' : Machine} (r : Result Value Halt) → AssignsOperand o x a m1 r m' → Updates o x a m r m'
-  spent_update {m' = m'} r u = record {
-    operands = u.operands ∙ operands;
-    calls = u.calls ∙ calls;
-    changes = then_changes _ s.changes (subst (λ (names : Naming). Changes (operand_value names.scalars a >>= λ w. assign_variable names.scalars o x w) m1.runtime m'.runtime r) s.changes.names u.changes);
-  }
+module _ {m m1 : Machine} (s : Spends m.runtime m1.runtime (Ok tt)) (operands : m1.operands ≡ m.operands) (calls : m1.calls ≡ m.calls) where
+  -- what is done with the names of the run
+  spent_leaves : (run : Naming → Run Value) {m' : Machine} (r : Result Value Halt) → Leaves (run m1.runtime.names) m1 r m' → Leaves (spend >>= λ _. run m.runtime.names) m r m'
+  spent_leaves run {m' = m'} r u = by r u.operands u.calls (then_changes _ s.changes (subst (λ (names : Naming). Changes (run names) m1.runtime m'.runtime r) s.changes.names u.changes))
+    where
+      by : (q : Result Value Halt) → OnOk q (m'.operands ≡ m1.operands) → OnOk q (m'.calls ≡ m1.calls) → Changes (spend >>= λ _. run m.runtime.names) m.runtime m'.runtime q → Leaves (spend >>= λ _. run m.runtime.names) m q m'
+      by (Ok w) o k changes = record { operands = o ∙ operands; calls = k ∙ calls; changes = changes }
+      by (Err e) o k changes = record { operands = tt; calls = tt; changes = changes }
 
-  pub updates_behind : {m' : Machine} (r : Result (Unit {0}) Halt) → Done (λ q. AssignsOperand o x a m1 q m') r → Done (λ q. Updates o x a m q m') r
-  updates_behind (Ok u) d = record { done = (d.done.0, spent_update (Ok d.done.0) d.done.1) }
-  updates_behind (Err h) d = record { done = spent_update (Err h) d.done }
+  spent_done : (run : Naming → Run Value) {m' : Machine} (r : Result (Unit {0}) Halt) → Done (λ q. Leaves (run m1.runtime.names) m1 q m') r → Done (λ q. Leaves (spend >>= λ _. run m.runtime.names) m q m') r
+  spent_done run (Ok u) d = record { done = (d.done.0, spent_leaves run (Ok d.done.0) d.done.1) }
+  spent_done run (Err h) d = record { done = spent_leaves run (Err h) d.done }
 
-module _ {m m1 : Machine} (s : Spends m.runtime m1.runtime (Ok tt)) (operands : m1.operands ≡ m.operands) (calls : m1.calls ≡ m.calls) (o : IncrementOperator) (x : Variable) where
-  spent_increment : {m' : Machine} (r : Result Value Halt) → Raises o x m1 r m' → Increments o x m r m'
-  spent_increment {m' = m'} r u = record {
-    operands = u.operands ∙ operands;
-    calls = u.calls ∙ calls;
-    changes = then_changes _ s.changes (subst (λ (names : Naming). Changes (post_increment_at names.scalars o (place.Variable x) value.Nothing) m1.runtime m'.runtime r) s.changes.names u.changes);
-  }
+  pub updates_behind : (o : AssignmentOperator) (t : Target) (a : Operand) {m' : Machine} (r : Result (Unit {0}) Halt) → Done (λ q. AssignsTarget o t a m1 q m') r → Done (λ q. Updates o t a m q m') r
+  updates_behind o t a r d = spent_done (λ names. assign_target names.scalars o t a) r d
 
-  pub increments_behind : {m' : Machine} (r : Result (Unit {0}) Halt) → Done (λ q. Raises o x m1 q m') r → Done (λ q. Increments o x m q m') r
-  increments_behind (Ok u) d = record { done = (d.done.0, spent_increment (Ok d.done.0) d.done.1) }
-  increments_behind (Err h) d = record { done = spent_increment (Err h) d.done }
+  pub increments_behind : (o : IncrementOperator) (t : Target) {m' : Machine} (r : Result (Unit {0}) Halt) → Done (λ q. Raises o t m1 q m') r → Done (λ q. Increments o t m q m') r
+  increments_behind o t r d = spent_done (λ names. raise_target names.scalars o t) r d
 
-pub number_raised : {m m' : Machine} {mid : Runtime} (o : IncrementOperator) (x : Variable) → Spends m.runtime mid (Ok tt) → GivesNumber (post_increment_at mid.names.scalars o (place.Variable x) value.Nothing) mid m'.runtime → m'.operands ≡ m.operands → m'.calls ≡ m.calls → Done (λ q. Increments o x m q m') (Ok tt)
-number_raised {m' = m'} {mid = mid} o x s g operands calls = record {
-  done = (
-    value.Number g.number,
-    record {
-      operands = operands;
-      calls = calls;
-      changes = then_changes _ s.changes (subst (λ (names : Naming). Changes (post_increment_at names.scalars o (place.Variable x) value.Nothing) mid m'.runtime (Ok (value.Number g.number))) s.changes.names g.changes);
-    },
-  );
-}
+-- a variable is assigned an operand as a target
+pub variable_updated : (o : AssignmentOperator) (x : Variable) (a : Operand) {m m' : Machine} (r : Result (Unit {0}) Halt) → Done (λ q. AssignsOperand o x a m q m') r → Done (λ q. AssignsTarget o (target.Variable x) a m q m') r
+variable_updated o x a (Ok u) d = record { done = (d.done.0, record { operands = d.done.1.operands; calls = d.done.1.calls; changes = d.done.1.changes }) }
+variable_updated o x a (Err h) d = record { done = record { operands = tt; calls = tt; changes = d.done.changes } }
+
+-- a variable's number is raised where it stands
+pub number_raised : {m m' : Machine} (o : IncrementOperator) (x : Variable) → GivesNumber (post_increment_at m.runtime.names.scalars o (place.Variable x) value.Nothing) m.runtime m'.runtime → m'.operands ≡ m.operands → m'.calls ≡ m.calls → Done (λ q. Raises o (target.Variable x) m q m') (Ok tt)
+number_raised o x g operands calls = record { done = (value.Number g.number, record { operands = operands; calls = calls; changes = g.changes }) }
 
 -- no step is left
 
-module _ {m m' : Machine} (operands : m'.operands ≡ m.operands) (calls : m'.calls ≡ m.calls) {h : Halt} (s : Spends m.runtime m'.runtime (Err h)) where
-  pub not_updated : (o : AssignmentOperator) (x : Variable) (a : Operand) → Done (λ q. Updates o x a m q m') (Err h)
-  not_updated o x a = record { done = record { operands = operands; calls = calls; changes = ends_changes _ s.changes } }
+module _ {m m' : Machine} {h : Halt} (s : Spends m.runtime m'.runtime (Err h)) where
+  pub not_updated : (o : AssignmentOperator) (t : Target) (a : Operand) → Done (λ q. Updates o t a m q m') (Err h)
+  not_updated o t a = record { done = record { operands = tt; calls = tt; changes = ends_changes _ s.changes } }
 
-  pub not_incremented : (o : IncrementOperator) (x : Variable) → Done (λ q. Increments o x m q m') (Err h)
-  not_incremented o x = record { done = record { operands = operands; calls = calls; changes = ends_changes _ s.changes } }
+  pub not_incremented : (o : IncrementOperator) (t : Target) → Done (λ q. Increments o t m q m') (Err h)
+  not_incremented o t = record { done = record { operands = tt; calls = tt; changes = ends_changes _ s.changes } }
+
+-- what leaves nothing on the stack
+
+pub leaves_kept : {m m1 m' : Machine} (kept : Keeps m1 m') {run : Run Value} (r : Result Value Halt) → Leaves run m r m1 → Leaves run m r m'
+leaves_kept {m = m} {m1 = m1} {m' = m'} kept {run = run} r u = by r u
+  where
+    by : (q : Result Value Halt) → Leaves run m q m1 → Leaves run m q m'
+    by (Ok w) u = record { operands = kept.operands ∙ u.operands; calls = kept.calls ∙ u.calls; changes = subst (λ (y : Runtime). Changes run m.runtime y (Ok w)) (sym kept.runtime) u.changes }
+    by (Err h) u = record { operands = tt; calls = tt; changes = subst (λ (y : Runtime). Changes run m.runtime y (Err h)) (sym kept.runtime) u.changes }

@@ -30,6 +30,7 @@ use Rattle.awk_storage.specs.Forms.{contains_at}
 use Rattle.awk_storage.specs.Positions.{read_at, read_element_of, assign_at, assign_by_at, post_increment_at}
 use Rattle.awk_resolve.specs.declared.node.Operand.{Operand}
 use Rattle.awk_resolve.specs.declared.node.Operand.TheVariants as operand
+use Rattle.awk_resolve.specs.declared.node.Target.TheVariants as target
 use Rattle.awk_resolve.specs.declared.node.ValueNode.{ValueNode}
 use Rattle.awk_resolve.specs.declared.node.ValueNode.TheVariants as v
 use Rattle.awk_resolve.specs.Nodes.{Tables, first, second, taken, value_of, popped, operated_with, operated_on}
@@ -123,7 +124,7 @@ field_puts {m = m} n {w = w} top h operands calls = record {
 }
 
 -- whether there is an element at the topmost value
-pub contains_puts : {m m' : Machine} {a : Array} {key : Value} {found : Bool} → key ≡ first m.operands.values → Changes (contains_at a (str_of key)) m.runtime m.runtime (Ok found) → m'.operands ≡ record m.operands { values = truth_value found ∷ drop 1 m.operands.values } → m'.calls ≡ m.calls → m'.runtime ≡ m.runtime → Puts (v.Contains a) m m'
+pub contains_puts : {m m' : Machine} {a : Array} {key : Value} {found : Bool} → key ≡ first m.operands.values → Changes (contains_at a (str_of key)) m.runtime m.runtime (Ok found) → m'.operands ≡ record m.operands { values = truth_value found ∷ drop 1 m.operands.values } → m'.calls ≡ m.calls → m'.runtime ≡ m.runtime → Puts (v.Contains a None) m m'
 contains_puts {m = m} {a = a} {found = found} top h operands calls runtime = record {
   value = truth_value found;
   operands = operands;
@@ -176,17 +177,13 @@ number_alike a v found other e = subst (λ (o : Option ℤ). IfSome o (λ n. Ass
 
 -- what is changed where it stands, and put on the stack
 
-post_alike : (names : List (List ℕ)) (o : IncrementOperator) (x : Variable) (operand operand' : Value) → post_increment_at names o (place.Variable x) operand ≡ post_increment_at names o (place.Variable x) operand'
-unfolding post_increment_at
-post_alike names o x operand operand' = refl
-
 module _ {m m' : Machine} (o : OperandsView) (pushed : o ≡ record m.operands { values = value.Nothing ∷ m.operands.values }) {z : ℤ} (replaced : m'.operands ≡ record o { values = value.Number z ∷ drop 1 o.values }) (calls : m'.calls ≡ m.calls) where
-  pub raised_puts : (a : IncrementOperator) (x : Variable) → Changes (post_increment_at m.runtime.names.scalars a (place.Variable x) value.Nothing) m.runtime m'.runtime (Ok (value.Number z)) → Puts (v.PostIncrement a (place.Variable x)) m m'
+  pub raised_puts : (a : IncrementOperator) (x : Variable) → Changes (post_increment_at m.runtime.names.scalars a (place.Variable x) value.Nothing) m.runtime m'.runtime (Ok (value.Number z)) → Puts (v.PostIncrementAt a (target.Variable x)) m m'
   raised_puts a x h = record {
     value = value.Number z;
     operands = replaced ∙ ap (λ (s : OperandsView). record s { values = value.Number z ∷ drop 1 s.values }) pushed;
     calls = calls;
-    changes = λ tables functions. subst (λ (run : Run Value). Changes run m.runtime m'.runtime (Ok (value.Number z))) (post_alike m.runtime.names.scalars a x value.Nothing (first m.operands.values)) h;
+    changes = λ tables functions. h;
   }
 
   pub raised_first_puts : (a : IncrementOperator) (x : Variable) → Changes (assign_by_at m.runtime.names.scalars (Some (by_one a)) (place.Variable x) value.Nothing (value.Number (pos 1))) m.runtime m'.runtime (Ok (value.Number z)) → Puts (v.PreIncrement a (place.Variable x)) m m'
@@ -220,7 +217,7 @@ pub joined_puts : {m m' : Machine} {a b : Operand} {x y w : Value} → IsAtHand 
 joined_puts {m = m} left right is p = pushed_puts refl (λ tables functions. then_changes _ left.changes (then_changes _ right.changes (lift_changes _ m.runtime (ap Ok (sym is))))) p
 
 -- an element that is there
-pub element_puts : {m m' : Machine} {a : Array} {key w : Value} → key ≡ first m.operands.values → Changes (read_element_of a (str_of key)) m.runtime m.runtime (Ok w) → m'.operands ≡ record m.operands { values = w ∷ drop 1 m.operands.values } → m'.calls ≡ m.calls → m'.runtime ≡ m.runtime → Puts (v.ReadElement a) m m'
+pub element_puts : {m m' : Machine} {a : Array} {key w : Value} → key ≡ first m.operands.values → Changes (read_element_of a (str_of key)) m.runtime m.runtime (Ok w) → m'.operands ≡ record m.operands { values = w ∷ drop 1 m.operands.values } → m'.calls ≡ m.calls → m'.runtime ≡ m.runtime → Puts (v.ReadElement a None) m m'
 element_puts {m = m} {a = a} {w = w} top h operands calls runtime = record {
   value = w;
   operands = operands;

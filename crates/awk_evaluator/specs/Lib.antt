@@ -9,3 +9,4 @@ pub use Rattle.awk_evaluator.specs.support.Quick
 pub use Rattle.awk_evaluator.specs.support.Lines
 pub use Rattle.awk_evaluator.specs.support.Applied
 pub use Rattle.awk_evaluator.specs.support.Appending
+pub use Rattle.awk_evaluator.specs.support.Elements

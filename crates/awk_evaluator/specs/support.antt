@@ -9,3 +9,4 @@ pub mod Quick
 pub mod Lines
 pub mod Applied
 pub mod Appending
+pub mod Elements

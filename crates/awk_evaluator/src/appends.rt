@@ -9,11 +9,10 @@ ghost use Rattle.awk_evaluator.specs.Quick.{IsAtHand};
 ghost use Rattle.awk_evaluator.specs.Appending.{SpendsAndAppends, AppendsOperands, AppendsAt, AppendsBehind, AppendsBytes, Joins};
 
 use crate::machine::Machine;
-use awk_resolve::node::{Operand, Target};
+use awk_resolve::node::{Key, Operand, Target};
 use awk_semantics::Halt;
 use awk_storage::{Array, Place};
 use awk_value::Value;
-use std::mem;
 
 impl Machine {
     /// Spends a step, and gives a target its text with those of operands behind it.
@@ -41,11 +40,9 @@ impl Machine {
         ensures kept { result ≡ Ok false → Keeps self.old self.new }
         ensures refused { IfErr result (λ halt. AppendsOperands target.now parts.now self.old (Err halt) self.new) }
     {
-        let alloc = self.runtime.alloc;
-        let mut text = mem::replace(&mut self.text, Vec::new(alloc));
-        text.clear();
+        let mut text = self.lend_text();
         let appended = self.append_joined(&mut text, target, parts);
-        self.text = text;
+        self.take_text_back(text);
         appended
     }
 
@@ -73,7 +70,7 @@ impl Machine {
 
     /// Appends the texts of operands that are at hand, one behind the other: whether all are.
     #[inline(always)]
-    fn join_at_hand(&mut self, text: &mut Vec<u8>, parts: &[Operand]) -> bool
+    pub(crate) fn join_at_hand(&mut self, text: &mut Vec<u8>, parts: &[Operand]) -> bool
         ensures joined { result ≡ true → Joins parts.now self.old text.old.items text.new.items }
         ensures same { self.new ≡ self.old }
     {
@@ -85,14 +82,14 @@ impl Machine {
         true
     }
 
-    /// Appends bytes to the text of the element at an operand, where both are at hand: whether they are, and else nothing changes.
+    /// Appends bytes to the text of the element at a key, where both are at hand: whether they are, and else nothing changes.
     #[inline(always)]
-    fn append_in(&mut self, array: Array, operand: &Operand, text: &[u8]) -> Result<bool, Halt>
-        ensures appended { result ≡ Ok true → AppendsBytes array operand.now text.now self.old self.new }
+    fn append_in(&mut self, array: Array, key: &Key, text: &[u8]) -> Result<bool, Halt>
+        ensures appended { result ≡ Ok true → AppendsBytes array key.now text.now self.old self.new }
         ensures kept { result ≡ Ok false → self.new ≡ self.old }
         ensures refused { IfErr result (λ halt. (run : Run AnyValue) → Changes run self.old.runtime self.new.runtime (Err halt)) }
     {
-        let Some(key) = self.copy_at_hand(operand) else {
+        let Some(key) = self.key_at_hand(key) else {
             return Ok(false);
         };
         self.runtime.append_bytes_in(array, &key, text)
@@ -100,7 +97,7 @@ impl Machine {
 
     /// A copy of the value that an operand is, where it is at hand.
     #[inline(always)]
-    fn copy_at_hand(&mut self, operand: &Operand) -> Option<Value>
+    pub(crate) fn copy_at_hand(&mut self, operand: &Operand) -> Option<Value>
         ensures some { IfSome result (λ value. IsAtHand operand.now value self.old) }
         ensures same { self.new ≡ self.old }
     {
@@ -131,7 +128,7 @@ impl Machine {
                 self.append_at(Place::Variable(*variable), &Value::Nothing, parts)
             }
             Target::Element(array, key) => {
-                let key = self.read_operand(key)?;
+                let key = self.read_key(key)?;
                 self.append_at(Place::Element(*array), &key, parts)
             }
         }
@@ -142,10 +139,7 @@ impl Machine {
         ensures { AppendsAt place operand.now parts.now self.old result self.new }
     {
         let old = self.runtime.read_at(place, operand)?;
-        self.put_operands(parts)?;
-        let values = self.operands.newest(parts.len());
-        let behind = self.runtime.concatenate_all(values)?;
-        self.operands.drop(parts.len());
+        let behind = self.read_joined(parts)?;
         self.assign_appended(place, operand, old, &behind)
     }
 

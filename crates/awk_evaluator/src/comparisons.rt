@@ -1,18 +1,40 @@
 // The moves of nodes that test: numbers at hand are compared where they stand, and all else by functions that aren't inlined.
 
-ghost use Rattle.std.specs.Prelude.{◌≡◌, IfSome};
+ghost use Rattle.std.specs.Prelude.{◌≡◌, Ok, IfSome, IfNone};
 ghost use Rattle.awk_value.specs.Values.{truth_of};
+ghost use Rattle.awk_text.specs.Pieces.{stretch_at, IsSpanOf};
+ghost use Rattle.awk_semantics.specs.Operators.{pattern_in};
+ghost use Rattle.awk_functions.specs.Matched.{matched};
+ghost use Rattle.awk_runtime.specs.Naming.{ere_at};
+ghost use Rattle.awk_runtime.specs.Simulation.{SameState};
 ghost use Rattle.awk_resolve.specs.declared.node.ValueNode.TheVariants.{OperateWith, OperateOn, Matches};
 ghost use Rattle.awk_resolve.specs.Nodes.{first};
 ghost use Rattle.awk_evaluator.specs.Moves.{told};
 ghost use Rattle.awk_evaluator.specs.Reading.{Compares};
-ghost use Rattle.awk_evaluator.specs.Quick.{Popped, Relates, RelatesWith};
+ghost use Rattle.awk_evaluator.specs.Applied.{HasNumber, StaysAlike};
+ghost use Rattle.awk_evaluator.specs.Quick.{IsAtHand, Popped, Relates, RelatesWith};
 
 use crate::machine::Machine;
 use awk_functions::{relate, relate_numbers};
 use awk_grammar::tree::BinaryOperator;
 use awk_resolve::node::Operand;
-use awk_value::{Value, is_true};
+use awk_runtime::Runtime;
+use awk_storage::Variable;
+use awk_text::Span;
+use awk_value::{Bytes, Value, is_true, number_of, numeric_of};
+
+/// Whether a stretch of the record has a match of an ERE of the program, by its number, where that was read before.
+#[inline(always)]
+fn stretch_has_match(runtime: &mut Runtime, span: Span, ere: u32) -> Option<bool>
+    requires { IsSpanOf runtime.old.current.text span }
+    ensures matched { IfSome result (λ holds. matched (pattern_in (ere_at runtime.old.names ere)) (stretch_at runtime.old.current.text span) ≡ Ok holds) }
+    ensures alike { SameState runtime.old runtime.new }
+{
+    let text = runtime.current.text_at_hand()?;
+    let part = &text.as_slice()[span.start..span.end];
+    let spelling = runtime.names.ere(ere);
+    runtime.patterns.matches_read(ere as usize, spelling, part)
+}
 
 impl Machine {
     /// Whether the topmost operand is true, which is taken off.
@@ -53,7 +75,10 @@ impl Machine {
         if let Some(holds) = self.relate_numbers(operator, left, right) {
             return Some(holds);
         }
-        self.compare_values(operator, left, right)
+        match left {
+            Operand::Field(_) | Operand::FieldAt(_) => self.compare_field(operator, left, right),
+            _ => self.compare_values(operator, left, right),
+        }
     }
 
     /// Whether two numbers at hand are so related.
@@ -87,9 +112,35 @@ impl Machine {
         if let Some(holds) = self.relate_values(operator, left, right) {
             return Some(holds);
         }
+        self.compare_read(operator, left, right)
+    }
+
+    /// The same of a field and a value of any kind.
+    #[inline(never)]
+    fn compare_field(
+        &mut self,
+        operator: BinaryOperator,
+        left: &Operand,
+        right: &Operand,
+    ) -> Option<bool>
+        ensures { Compares (OperateOn operator left.now right.now) self.old (told result self.new) self.new }
+    {
         if let Some(holds) = self.relate_field(operator, left, right) {
             return Some(holds);
         }
+        self.compare_read(operator, left, right)
+    }
+
+    /// The same of values that are read first.
+    #[inline(never)]
+    fn compare_read(
+        &mut self,
+        operator: BinaryOperator,
+        left: &Operand,
+        right: &Operand,
+    ) -> Option<bool>
+        ensures { Compares (OperateOn operator left.now right.now) self.old (told result self.new) self.new }
+    {
         let value = self.operate_on(operator, left, right);
         self.truth_of(value)
     }
@@ -110,7 +161,7 @@ impl Machine {
         relate(infix, self.value_at(left)?, self.value_at(right)?)
     }
 
-    /// Whether a field at hand and a value at hand are so related.
+    /// Whether a field that stands in the record and a value at hand are so related.
     #[inline(always)]
     fn relate_field(
         &mut self,
@@ -124,8 +175,14 @@ impl Machine {
         let BinaryOperator::Infix(infix) = operator else {
             return None;
         };
-        let field = self.field_of(left)?;
-        relate(infix, &field, self.value_at(right)?)
+        let field = self.text_of_field(left)?;
+        let value = self.value_at(right)?;
+        if let Value::Number(n) = value
+            && let Some(m) = numeric_of(&field)
+        {
+            return relate_numbers(infix, m, *n);
+        }
+        relate(infix, &field, value)
     }
 
     /// Whether what an operator makes of the topmost value, which is taken off, and an operand is true.
@@ -185,6 +242,17 @@ impl Machine {
         if let Operand::Field(0) = operand {
             return self.match_record(ere);
         }
+        self.match_other(operand, ere)
+    }
+
+    /// The same of an operand that isn't the record.
+    #[inline(never)]
+    fn match_other(&mut self, operand: &Operand, ere: u32) -> Option<bool>
+        ensures { Compares (Matches operand.now ere) self.old (told result self.new) self.new }
+    {
+        if let Some(holds) = self.match_field(operand, ere) {
+            return Some(holds);
+        }
         let value = self.matches(operand, ere);
         self.truth_of(value)
     }
@@ -200,6 +268,55 @@ impl Machine {
                 self.halt = halt;
                 None
             }
+        }
+    }
+
+    /// Whether a field that stands in the record has a match of an ERE of the program that was read before.
+    #[inline(always)]
+    fn match_field(&mut self, operand: &Operand, ere: u32) -> Option<bool>
+        ensures some { IfSome result (λ holds. Compares (Matches operand.now ere) self.old (Ok holds) self.new) }
+        ensures none { IfNone result (StaysAlike self.old self.new) }
+    {
+        let span = self.span_of(operand)?;
+        stretch_has_match(&mut self.runtime, span, ere)
+    }
+
+    /// Counts the fields where an operand is the last of them.
+    #[inline(always)]
+    fn count_for(&mut self, operand: &Operand)
+        ensures same { self.new ≡ self.old }
+    {
+        if let Operand::FieldAt(Variable::FieldCount) = operand {
+            let _count = self.runtime.number_in(Variable::FieldCount);
+        }
+    }
+
+    /// The text of a field that stands in the record.
+    #[inline(always)]
+    fn text_of_field(&mut self, operand: &Operand) -> Option<Value>
+        ensures some { IfSome result (λ value. IsAtHand operand.now value self.old) }
+        ensures same { self.new ≡ self.old }
+    {
+        self.count_for(operand);
+        let span = self.span_of(operand)?;
+        let record = self.runtime.current.text_at_hand()?;
+        let mut field = Bytes::empty();
+        if !record.cut_to(span.start, span.end, &mut field) {
+            return None;
+        }
+        Some(Value::Input(field))
+    }
+
+    /// The number of a field that stands in the record.
+    #[inline(always)]
+    pub(crate) fn number_at_field(&mut self, operand: &Operand) -> Option<i128>
+        ensures some { IfSome result (λ n. HasNumber operand.now n self.old) }
+        ensures same { self.new ≡ self.old }
+    {
+        let field = self.text_of_field(operand)?;
+        match number_of(&field) {
+            Ok(n) => Some(n),
+            Err(_) => None,
         }
     }
 }

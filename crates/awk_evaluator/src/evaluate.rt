@@ -186,14 +186,17 @@ impl Machine {
             ValueNode::Change(operator) => self.change(*operator),
             ValueNode::ReadField => self.field(),
             ValueNode::ConcatenateAll(count) => self.concatenate_all(*count),
-            ValueNode::ReadElement(array) => self.element(*array),
+            ValueNode::ReadElement(array, key) => self.element(*array, key),
             ValueNode::Assign(operator, place) => self.assign(*operator, *place),
             ValueNode::Append(variable) => self.append(*variable),
             ValueNode::PreIncrement(operator, place) => self.pre_increment(*operator, *place),
             ValueNode::PostIncrement(operator, place) => self.post_increment(*operator, *place),
+            ValueNode::PostIncrementAt(operator, target) => {
+                self.post_increment_at(*operator, target)
+            }
             ValueNode::Matches(operand, ere) => self.matches(operand, *ere),
             ValueNode::MatchesEre(operator, ere) => self.matches_ere(*operator, *ere),
-            ValueNode::Contains(array) => self.contains(*array),
+            ValueNode::Contains(array, key) => self.contains(*array, key),
             ValueNode::Key(count) => self.key(*count),
             ValueNode::FieldNumber => self.field_number(),
             ValueNode::Load(place) => self.load(*place),

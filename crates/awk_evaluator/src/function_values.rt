@@ -3,7 +3,7 @@
 ghost use Rattle.std.specs.Prelude.{◌≡◌, ◌∷◌, [], ◌++◌, pos, length, true, false, Ok, IfSome, OnOk};
 ghost use Rattle.awk_value.specs.Values.{str_of};
 ghost use Rattle.awk_value.specs.declared.value.Value.TheVariants.{Text, Input, Number};
-ghost use Rattle.awk_text.specs.Functions.{substr_of};
+ghost use Rattle.awk_text.specs.Functions.{substr_of, IsPositionOf};
 ghost use Rattle.awk_text.specs.Pieces.{stretch_at, IsSpanOf};
 ghost use Rattle.awk_lex.specs.declared.token.BuiltIn.TheVariants.{Length, Substr, Index};
 ghost use Rattle.awk_semantics.specs.Texts.{position_of};
@@ -11,7 +11,7 @@ ghost use Rattle.awk_record.specs.Record.{field_of};
 ghost use Rattle.awk_resolve.specs.Nodes.{first, taken};
 ghost use Rattle.awk_resolve.specs.declared.node.ValueNode.TheVariants.{ApplyTo};
 ghost use Rattle.awk_evaluator.specs.Moves.{Computes};
-ghost use Rattle.awk_evaluator.specs.Quick.{Puts, Pushed};
+ghost use Rattle.awk_evaluator.specs.Quick.{IsAtHand, Puts, Pushed};
 ghost use Rattle.awk_evaluator.specs.Applied.{AreAtHand, HasText, PutsApplied, position_values, ReadsAll, items_in};
 
 use crate::machine::Machine;
@@ -20,6 +20,7 @@ use awk_resolve::node::Operand;
 use awk_semantics::{Halt, law_of_positions};
 use awk_text::{Span, index, substr};
 use awk_value::{Bytes, Value};
+use memchr::memchr;
 use std::alloc::AllocError;
 
 /// The positions that `substr` takes: a start, and how many from there on.
@@ -50,6 +51,34 @@ fn text_of(value: &Value) -> Option<&Bytes>
     }
 }
 
+/// The first position of a part of two bytes, or 0, where the first of them stands nowhere, or first where the part does.
+#[inline(always)]
+fn position_of_pair(text: &[u8], part: &[u8]) -> Option<usize>
+    ensures { IfSome result (λ n. IsPositionOf part.now text.now n) }
+{
+    let [first, second] = part else {
+        return None;
+    };
+    let Some(before) = memchr(*first, text) else {
+        return Some(0);
+    };
+    match text.get(before + 1) {
+        Some(byte) if byte == second => Some(before + 1),
+        _ => None,
+    }
+}
+
+/// The first position of a part, or 0.
+#[inline(never)]
+fn position(text: &[u8], part: &[u8]) -> usize
+    ensures { IsPositionOf part.now text.now result }
+{
+    match position_of_pair(text, part) {
+        Some(position) => position,
+        None => index(text, part),
+    }
+}
+
 /// The first position of a value's text in these bytes, or 0.
 #[inline(always)]
 fn position_in(text: &[u8], part: &Value) -> Option<i128>
@@ -57,7 +86,7 @@ fn position_in(text: &[u8], part: &Value) -> Option<i128>
 {
     law_of_positions();
     let part = text_of(part)?;
-    Some(index(text, part.as_slice()) as i128)
+    Some(position(text, part.as_slice()) as i128)
 }
 
 /// The part at positions of what stands at a span of a text.
@@ -113,8 +142,9 @@ impl Machine {
 
     /// Where in the record's text an operand stands that is a field.
     #[inline(always)]
-    fn span_of(&mut self, operand: &Operand) -> Option<Span>
+    pub(crate) fn span_of(&mut self, operand: &Operand) -> Option<Span>
         ensures stands { IfSome result (λ span. HasText operand.now (λ text. text ≡ stretch_at self.old.runtime.current.text span) self.old) }
+        ensures field { IfSome result (λ span. IsAtHand operand.now (Input (stretch_at self.old.runtime.current.text span)) self.old) }
         ensures within { IfSome result (IsSpanOf self.old.runtime.current.text) }
         ensures same { self.new ≡ self.old }
     {

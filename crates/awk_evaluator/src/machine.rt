@@ -1,6 +1,6 @@
 // The machine: it moves from place to place, until nothing is left. No function of it calls itself.
 
-ghost use Rattle.std.specs.Prelude.{◌≡◌, OnOk};
+ghost use Rattle.std.specs.Prelude.{◌≡◌, [], OnOk};
 ghost use Rattle.awk_runtime.specs.Simulation.{IsReady};
 ghost use Rattle.awk_runtime.specs.Calling.{EndsCalls};
 ghost use Rattle.awk_evaluator.specs.Rest.{IsSound, AtPlace};
@@ -9,11 +9,13 @@ ghost use Rattle.awk_evaluator.specs.Moves.{IsIdle, Turns, Steps, Ends, Done, Ex
 use crate::calls::Calls;
 use crate::moves::node_at;
 use crate::operands::Operands;
+use crate::room::Room;
 use awk_resolve::Plan;
 use awk_runtime::Runtime;
 use awk_semantics::Halt;
 use awk_streams::World;
 use awk_value::{Value, is_true};
+use std::mem;
 
 /// A run: its state, the operands of the active calls, and where their callers go on.
 #[derive(Drop)]
@@ -21,8 +23,8 @@ pub struct Machine {
     pub runtime: Runtime,
     pub operands: Operands,
     pub calls: Calls,
-    /// The text that an append makes, kept for its room.
-    pub text: Vec<u8>,
+    /// The memory in which texts are joined.
+    pub text: Room,
     /// Why the run ended, where a move says that it is halted.
     pub halt: Halt,
 }
@@ -53,7 +55,9 @@ impl Machine {
             runtime,
             operands: Operands::new(alloc),
             calls: Calls::new(alloc),
-            text: Vec::new(alloc),
+            text: Room {
+                bytes: Vec::new(alloc),
+            },
             halt: Halt::Exit,
         }
     }
@@ -141,6 +145,26 @@ impl Machine {
                 None => return self.give_nothing(),
             }
         }
+    }
+
+    /// Lends the memory in which texts are joined; nothing lies in it.
+    #[inline(always)]
+    pub(crate) fn lend_text(&mut self) -> Vec<u8>
+        ensures empty { result.items ≡ [] }
+        ensures same { self.new ≡ self.old }
+    {
+        let alloc = self.runtime.alloc;
+        let mut text = mem::replace(&mut self.text.bytes, Vec::new(alloc));
+        text.clear();
+        text
+    }
+
+    /// Takes back the memory that was lent.
+    #[inline(always)]
+    pub(crate) fn take_text_back(&mut self, text: Vec<u8>)
+        ensures { self.new ≡ self.old }
+    {
+        self.text.bytes = text;
     }
 
     /// The run ends by this.

@@ -109,11 +109,11 @@ impl Machine {
                 onward(self.assign_to(*operator, place), *next)
             }
             Node::Raise(operator, place, next) => onward(self.raise(*operator, place), *next),
-            Node::Update(operator, variable, operand, next) => {
-                onward(self.update(*operator, variable, operand), *next)
+            Node::Update(operator, target, operand, next) => {
+                onward(self.update(*operator, target, operand), *next)
             }
-            Node::Increment(operator, variable, next) => {
-                onward(self.increment(*operator, variable), *next)
+            Node::Increment(operator, target, next) => {
+                onward(self.increment(*operator, target), *next)
             }
             Node::AppendOperands(target, parts, next) => {
                 onward(self.append_operands(target, parts), *next)

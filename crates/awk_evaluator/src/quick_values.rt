@@ -1,21 +1,22 @@
 // Values that are at hand, put on the stack. Where one can't be put there so, nothing changes.
 
-ghost use Rattle.std.specs.Prelude.{◌≡◌, pos, length, Ok, IfSome, true, false};
+ghost use Rattle.std.specs.Prelude.{◌≡◌, pos, length, None as NoneOf, Ok, IfSome, true, false};
 ghost use Rattle.awk_value.specs.Values.{str_of};
 ghost use Rattle.awk_value.specs.declared.value.Value.TheVariants.{Number};
 ghost use Rattle.awk_lex.specs.declared.token.BuiltIn.TheVariants.{Length};
 ghost use Rattle.awk_grammar.specs.declared.tree.BinaryOperator.TheVariants.{Concatenate, Infix};
 ghost use Rattle.awk_grammar.specs.declared.tree.UnaryOperator.TheVariants.{Minus as Negative};
-ghost use Rattle.awk_resolve.specs.declared.node.ValueNode.TheVariants.{Put, Operate, OperateWith, OperateOn, Change, ReadField, ReadElement, Contains, Load, Apply, Assign, PreIncrement, PostIncrement};
+ghost use Rattle.awk_resolve.specs.declared.node.ValueNode.TheVariants.{Put, Operate, OperateWith, OperateOn, Change, ReadField, ReadElement, Contains, Load, Apply, Assign, PreIncrement, PostIncrement, PostIncrementAt};
 ghost use Rattle.awk_storage.specs.Positions.{read_variable};
 ghost use Rattle.awk_runtime.specs.Simulation.{Changes};
+ghost use Rattle.awk_evaluator.specs.Applied.{HasNumber, IsOfNumbers};
 ghost use Rattle.awk_evaluator.specs.Quick.{IsAtHand, Puts, Pushed};
 
 use crate::machine::Machine;
 use awk_functions::{apply_in_short, by_one, concatenate, operator_of, truth_value};
 use awk_grammar::tree::{BinaryOperator, UnaryOperator};
 use awk_lex::token::{AssignmentOperator, BuiltIn, IncrementOperator, Operator};
-use awk_resolve::node::{Operand, ValueNode};
+use awk_resolve::node::{Operand, Target, ValueNode};
 use awk_storage::{Array, Place, Variable};
 use awk_value::Value;
 
@@ -28,6 +29,18 @@ fn length_at_hand(value: &Value) -> Option<i128>
         Value::Text(text) => Some(text.len() as i128),
         Value::Input(text) => Some(text.len() as i128),
         Value::Nothing | Value::Number(_) => None,
+    }
+}
+
+/// Whether an operator makes of two values what it makes of their numbers.
+#[inline(always)]
+fn is_arithmetic(operator: Operator) -> bool
+    ensures { result ≡ true → IsOfNumbers operator }
+{
+    match operator {
+        Operator::Plus | Operator::Minus | Operator::Times => true,
+        Operator::Divide | Operator::Remainder | Operator::Power => true,
+        _ => false,
     }
 }
 
@@ -52,14 +65,19 @@ impl Machine {
             }
             ValueNode::Change(UnaryOperator::Minus) => self.put_negated(),
             ValueNode::ReadField => self.put_field(),
-            ValueNode::ReadElement(array) => self.put_element(*array),
-            ValueNode::Contains(array) => self.put_contains(*array),
+            ValueNode::ReadElement(array, None) => self.put_element(*array),
+            ValueNode::ReadElement(array, Some(key)) => self.put_element_at(*array, key),
+            ValueNode::Contains(array, None) => self.put_contains(*array),
+            ValueNode::Contains(array, Some(key)) => self.put_contains_at(*array, key),
             ValueNode::Apply(BuiltIn::Length, count) => self.put_length(*count),
             ValueNode::ApplyTo(function, operands, count) => {
                 self.put_applied(*function, operands, *count)
             }
-            ValueNode::PostIncrement(operator, Place::Variable(variable)) => {
+            ValueNode::PostIncrementAt(operator, Target::Variable(variable)) => {
                 self.put_raised(*operator, variable)
+            }
+            ValueNode::PostIncrementAt(operator, Target::Element(array, key)) => {
+                self.put_raised_at(*operator, *array, key)
             }
             ValueNode::PostIncrement(operator, Place::Element(array)) => {
                 self.put_raised_in(*operator, *array)
@@ -239,15 +257,53 @@ impl Machine {
         ensures kept { result ≡ false → self.new ≡ self.old }
     {
         let Some(m) = self.number_at(left) else {
-            return false;
+            return self.put_operated_on_fields(operator, left, right);
         };
         let Some(n) = self.number_at(right) else {
+            return self.put_operated_on_fields(operator, left, right);
+        };
+        let Some(z) = apply_in_short(operator, m, n) else {
+            return false;
+        };
+        self.put(z)
+    }
+
+    /// The same of operands of which one is a field.
+    #[inline(never)]
+    fn put_operated_on_fields(
+        &mut self,
+        operator: Operator,
+        left: &Operand,
+        right: &Operand,
+    ) -> bool
+        ensures puts { result ≡ true → Puts (OperateOn (Infix operator) left.now right.now) self.old self.new }
+        ensures kept { result ≡ false → self.new ≡ self.old }
+    {
+        if !is_arithmetic(operator) {
+            return false;
+        }
+        let Some(m) = self.number_read(left) else {
+            return false;
+        };
+        let Some(n) = self.number_read(right) else {
             return false;
         };
         let Some(z) = apply_in_short(operator, m, n) else {
             return false;
         };
         self.put(z)
+    }
+
+    /// The number of an operand that is a number, or a field that stands in the record.
+    #[inline(always)]
+    fn number_read(&mut self, operand: &Operand) -> Option<i128>
+        ensures some { IfSome result (λ n. HasNumber operand.now n self.old) }
+        ensures same { self.new ≡ self.old }
+    {
+        match self.number_at(operand) {
+            Some(n) => Some(n),
+            None => self.number_at_field(operand),
+        }
     }
 
     /// Puts the texts of two operands, one behind the other, on the stack.
@@ -315,7 +371,7 @@ impl Machine {
     /// Puts the element whose key lies on top in its place.
     #[inline(always)]
     fn put_element(&mut self, array: Array) -> bool
-        ensures puts { result ≡ true → Puts (ReadElement array) self.old self.new }
+        ensures puts { result ≡ true → Puts (ReadElement array NoneOf) self.old self.new }
         ensures kept { result ≡ false → self.new ≡ self.old }
     {
         let Some(key) = self.operands.top() else {
@@ -334,7 +390,7 @@ impl Machine {
     /// Puts whether there is an element at the key on top in its place.
     #[inline(always)]
     fn put_contains(&mut self, array: Array) -> bool
-        ensures puts { result ≡ true → Puts (Contains array) self.old self.new }
+        ensures puts { result ≡ true → Puts (Contains array NoneOf) self.old self.new }
         ensures kept { result ≡ false → self.new ≡ self.old }
     {
         let Some(key) = self.operands.top() else {
@@ -348,7 +404,7 @@ impl Machine {
     /// Raises or lowers a variable's number by 1, and puts the number that it had on the stack.
     #[inline(never)]
     fn put_raised(&mut self, operator: IncrementOperator, variable: &Variable) -> bool
-        ensures puts { result ≡ true → Puts (PostIncrement operator (Place.Variable variable.now)) self.old self.new }
+        ensures puts { result ≡ true → Puts (PostIncrementAt operator (Target.Variable variable.now)) self.old self.new }
         ensures kept { result ≡ false → self.new ≡ self.old }
     {
         let Ok(()) = self.operands.push(Value::Nothing) else {

@@ -18,20 +18,37 @@ use awk_value::Value;
 
 impl Machine {
     /// Where a pattern matches in an operand; sets RSTART and RLENGTH. (POSIX awk, String Functions: match)
-    #[inline(never)]
+    #[inline(always)]
     pub(crate) fn match_in(&mut self, ere: Option<u32>) -> Result<Value, Halt>
         ensures { Computes (Match ere) self.old result self.new }
     {
         match ere {
-            Some(ere) => {
-                let text = self.operands.pop();
-                self.runtime.match_in(&text, PatternSource::Ere(ere))
-            }
-            None => {
-                let (text, pattern) = self.operands.pop_two();
-                self.runtime.match_in(&text, PatternSource::Value(&pattern))
-            }
+            Some(ere) => self.match_ere(ere),
+            None => self.match_pattern(),
         }
+    }
+
+    // The same of an ERE of the program. The operand is read where it stands.
+    #[inline(never)]
+    fn match_ere(&mut self, ere: u32) -> Result<Value, Halt>
+        ensures { Computes (Match (SomeOf ere)) self.old result self.new }
+    {
+        let nothing = Value::Nothing;
+        let text = self.operands.top_or(&nothing);
+        let position = self.runtime.match_in(text, PatternSource::Ere(ere));
+        drop(nothing);
+        let position = position?;
+        self.operands.pop();
+        Ok(position)
+    }
+
+    // The same of the pattern that the topmost operand spells.
+    #[inline(never)]
+    fn match_pattern(&mut self) -> Result<Value, Halt>
+        ensures { Computes (Match NoneOf) self.old result self.new }
+    {
+        let (text, pattern) = self.operands.pop_two();
+        self.runtime.match_in(&text, PatternSource::Value(&pattern))
     }
 
     /// Splits an operand into the elements of an array. (POSIX awk, String Functions: split)

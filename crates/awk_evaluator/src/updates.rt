@@ -9,11 +9,11 @@ ghost use Rattle.awk_resolve.specs.declared.node.ValueNode.TheVariants.{Assign, 
 ghost use Rattle.awk_resolve.specs.Nodes.{first};
 ghost use Rattle.awk_evaluator.specs.Moves.{Computes, Done, came};
 ghost use Rattle.awk_evaluator.specs.Reading.{Updates, Increments, AssignsOperand, Raises};
-ghost use Rattle.awk_evaluator.specs.Quick.{AssignsAlike};
+ghost use Rattle.awk_evaluator.specs.Quick.{AssignsAlike, IsAsGood};
 
 use crate::machine::Machine;
 use awk_lex::token::{AssignmentOperator, IncrementOperator};
-use awk_resolve::node::Operand;
+use awk_resolve::node::{Operand, Target};
 use awk_storage::{Array, Place, Variable};
 use awk_value::{Value, number_of};
 
@@ -40,19 +40,35 @@ impl Machine {
         self.is_done(spent)
     }
 
-    /// Spends a step, and assigns an operand to a variable.
+    /// Spends a step, and assigns an operand to a target.
     #[inline(always)]
     pub(crate) fn update(
+        &mut self,
+        operator: AssignmentOperator,
+        target: &Target,
+        operand: &Operand,
+    ) -> bool
+        ensures { Done (λ r. Updates operator target.now operand.now self.old r self.new) (came result self.new) }
+    {
+        if !self.spend() {
+            return false;
+        }
+        match target {
+            Target::Variable(variable) => self.update_variable(operator, variable, operand),
+            Target::Element(array, key) => self.update_element(operator, *array, key, operand),
+        }
+    }
+
+    /// Assigns an operand to a variable.
+    #[inline(always)]
+    fn update_variable(
         &mut self,
         operator: AssignmentOperator,
         variable: &Variable,
         operand: &Operand,
     ) -> bool
-        ensures { Done (λ r. Updates operator variable.now operand.now self.old r self.new) (came result self.new) }
+        ensures { Done (λ r. AssignsOperand operator variable.now operand.now self.old r self.new) (came result self.new) }
     {
-        if !self.spend() {
-            return false;
-        }
         if self.assign_number_at(operator, variable, operand) {
             return true;
         }
@@ -108,38 +124,65 @@ impl Machine {
         ensures assigned { result ≡ true → Done (λ r. AssignsOperand operator variable.now operand.now self.old r self.new) (Ok tt) }
         ensures kept { result ≡ false → self.new ≡ self.old }
     {
-        let Some(field) = self.field_of(operand) else {
-            return false;
-        };
-        let Some(n) = number_alike(operator, &field) else {
+        let Some(n) = self.number_of_field(operator, operand) else {
             return false;
         };
         self.runtime.change_number(operator, variable, n)
     }
 
-    /// Spends a step, and raises or lowers a variable's number by 1.
+    /// The number of a field that is at hand, where an operator is applied.
     #[inline(always)]
-    pub(crate) fn increment(&mut self, operator: IncrementOperator, variable: &Variable) -> bool
-        ensures { Done (λ r. Increments operator variable.now self.old r self.new) (came result self.new) }
+    fn number_of_field(&mut self, operator: AssignmentOperator, operand: &Operand) -> Option<i128>
+        ensures some { IfSome result (λ n. IsAsGood operator operand.now n self.old) }
+        ensures same { self.new ≡ self.old }
+    {
+        if let AssignmentOperator::Plain = operator {
+            return None;
+        }
+        self.number_at_field(operand)
+    }
+
+    /// The number that is as good to assign as an operand that is at hand.
+    #[inline(always)]
+    pub(crate) fn number_to_assign(
+        &mut self,
+        operator: AssignmentOperator,
+        operand: &Operand,
+    ) -> Option<i128>
+        ensures some { IfSome result (λ n. IsAsGood operator operand.now n self.old) }
+        ensures same { self.new ≡ self.old }
+    {
+        match self.number_at(operand) {
+            Some(n) => Some(n),
+            None => self.number_of_field(operator, operand),
+        }
+    }
+
+    /// Spends a step, and raises or lowers a target's number by 1.
+    #[inline(always)]
+    pub(crate) fn increment(&mut self, operator: IncrementOperator, target: &Target) -> bool
+        ensures { Done (λ r. Increments operator target.now self.old r self.new) (came result self.new) }
     {
         if !self.spend() {
             return false;
         }
-        if self.runtime.raise_in_place(operator, variable) {
-            return true;
+        match target {
+            Target::Variable(variable) => {
+                if self.runtime.raise_in_place(operator, variable) {
+                    return true;
+                }
+                self.increment_value(operator, target)
+            }
+            Target::Element(array, key) => self.increment_element(operator, *array, key, target),
         }
-        self.increment_value(operator, variable)
     }
 
-    /// Raises or lowers what a variable holds, of any kind, by 1.
+    /// Raises or lowers what a target holds, of any kind, by 1.
     #[inline(never)]
-    fn increment_value(&mut self, operator: IncrementOperator, variable: &Variable) -> bool
-        ensures { Done (λ r. Raises operator variable.now self.old r self.new) (came result self.new) }
+    pub(crate) fn increment_value(&mut self, operator: IncrementOperator, target: &Target) -> bool
+        ensures { Done (λ r. Raises operator target.now self.old r self.new) (came result self.new) }
     {
-        let place = Place::Variable(*variable);
-        let raised = self
-            .runtime
-            .post_increment_at(operator, place, &Value::Nothing);
+        let raised = self.post_increment_at(operator, target);
         self.is_done(raised)
     }
 
@@ -203,28 +246,34 @@ impl Machine {
     fn assign_value(&mut self, operator: AssignmentOperator, place: &Place) -> bool
         ensures { Done (λ r. Computes (Assign operator place.now) self.old r self.new) (came result self.new) }
     {
+        let AssignmentOperator::Plain = operator else {
+            return self.assign_by(operator, place);
+        };
+        match place {
+            Place::Variable(Variable::Global(slot)) => self.assign_slot(*slot),
+            Place::Variable(variable) => self.assign_any(*variable),
+            Place::Element(array) => self.assign_in(*array),
+            Place::Field => self.assign_field(),
+        }
+    }
+
+    /// Gives a place what an operator makes of its own value and the topmost one.
+    #[inline(never)]
+    fn assign_by(&mut self, operator: AssignmentOperator, place: &Place) -> bool
+        ensures { Done (λ r. Computes (Assign operator place.now) self.old r self.new) (came result self.new) }
+    {
         if self.assign_as_number(operator, place) {
             return true;
         }
         if self.assign_as_number_in(operator, place) {
             return true;
         }
-        if let AssignmentOperator::Plain = operator {
-            if let Place::Element(array) = place {
-                return self.assign_in(*array);
-            }
-            if let Place::Variable(variable) = place {
-                return self.assign_variable(*variable);
-            }
-            if let Place::Field = place {
-                return self.assign_field();
-            }
-        }
         let assigned = self.assign(operator, *place);
         self.is_done(assigned)
     }
 
     /// Assigns the topmost value to an element, which isn't read again.
+    #[inline(never)]
     fn assign_in(&mut self, array: Array) -> bool
         ensures { Done (λ r. Computes (Assign AssignmentOperator.Plain (Element array)) self.old r self.new) (came result self.new) }
     {
@@ -238,6 +287,7 @@ impl Machine {
     }
 
     /// Assigns the topmost value to a field, which isn't read again.
+    #[inline(never)]
     fn assign_field(&mut self) -> bool
         ensures { Done (λ r. Computes (Assign AssignmentOperator.Plain Place.Field) self.old r self.new) (came result self.new) }
     {
@@ -250,7 +300,24 @@ impl Machine {
         self.is_done(assigned)
     }
 
+    /// Assigns the topmost value to a variable of the program, which isn't read again.
+    #[inline(never)]
+    fn assign_slot(&mut self, slot: u32) -> bool
+        ensures { Done (λ r. Computes (Assign AssignmentOperator.Plain (Place.Variable (Variable.Global slot))) self.old r self.new) (came result self.new) }
+    {
+        self.assign_variable(Variable::Global(slot))
+    }
+
+    /// The same of any variable.
+    #[inline(never)]
+    fn assign_any(&mut self, variable: Variable) -> bool
+        ensures { Done (λ r. Computes (Assign AssignmentOperator.Plain (Place.Variable variable)) self.old r self.new) (came result self.new) }
+    {
+        self.assign_variable(variable)
+    }
+
     /// Assigns the topmost value to a variable, which isn't read again.
+    #[inline(always)]
     fn assign_variable(&mut self, variable: Variable) -> bool
         ensures { Done (λ r. Computes (Assign AssignmentOperator.Plain (Place.Variable variable)) self.old r self.new) (came result self.new) }
     {

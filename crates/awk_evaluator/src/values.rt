@@ -1,6 +1,6 @@
 // The values of nodes over the state alone: what a node takes is taken off the operands, and its value is given.
 
-ghost use Rattle.std.specs.Prelude.{◌≡◌, true, false, Ok, Err, IfErr};
+ghost use Rattle.std.specs.Prelude.{◌≡◌, true, false, None as NoneOf, Ok, Err, IfErr};
 ghost use Rattle.awk_resolve.specs.Nodes.{operands};
 ghost use Rattle.awk_resolve.specs.declared.node.ValueNode.TheVariants.{Operate, ConcatenateAll, MatchesEre, Change, ReadField, ReadElement, Contains, Key, FieldNumber, Assign, Append, PreIncrement, PostIncrement, Load, RecordLength, CountElements, Apply};
 ghost use Rattle.awk_evaluator.specs.Moves.{Computes, Done, came};
@@ -85,16 +85,16 @@ impl Machine {
 
     /// The element at the key that an operand is.
     #[inline(never)]
-    pub(crate) fn element(&mut self, array: Array) -> Result<Value, Halt>
-        ensures { Computes (ReadElement array) self.old result self.new }
+    pub(crate) fn element_on_top(&mut self, array: Array) -> Result<Value, Halt>
+        ensures { Computes (ReadElement array NoneOf) self.old result self.new }
     {
         let key = self.operands.pop();
         self.runtime.read_element_of(array, &key)
     }
 
     /// Whether there is an element at the key that an operand is.
-    pub(crate) fn contains(&mut self, array: Array) -> Result<Value, Halt>
-        ensures { Computes (Contains array) self.old result self.new }
+    pub(crate) fn contains_on_top(&mut self, array: Array) -> Result<Value, Halt>
+        ensures { Computes (Contains array NoneOf) self.old result self.new }
     {
         let key = self.operands.pop();
         let is_there = self.runtime.contains_at(array, &key)?;

@@ -25,7 +25,7 @@ use Rattle.awk_resolve.specs.support.Builds.{Pushes, Evaluate, Builds, FindsVari
 use Rattle.awk_resolve.specs.support.Parts.{is_concatenation}
 use Rattle.awk_resolve.proofs.Calculus.{assoc_at, later_same, later_in, first_same, given}
 use Rattle.awk_resolve.proofs.Building.{grows, still}
-use Rattle.awk_resolve.proofs.Targets.{at_variable, assigned_by}
+use Rattle.awk_resolve.proofs.Positions.{at_variable, assigned_by}
 use Rattle.awk_resolve.proofs.Taking.{node, value_first, evaluates}
 use Rattle.awk_resolve.proofs.ExpressionForms.{takes_behind}
 

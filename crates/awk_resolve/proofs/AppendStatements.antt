@@ -29,7 +29,7 @@ use Rattle.awk_resolve.specs.support.Readings.{parts_read}
 use Rattle.awk_resolve.proofs.Calculus.{assoc_at, later_same, later_in, first_same, given}
 use Rattle.awk_resolve.proofs.Building.{grows, still}
 use Rattle.awk_resolve.proofs.ValueLists.{taken_all, dropped_all, all_first, counted}
-use Rattle.awk_resolve.proofs.Targets.{at_variable, assigned_by}
+use Rattle.awk_resolve.proofs.Positions.{at_variable, assigned_by}
 use Rattle.awk_resolve.proofs.Taking.{append_node, list_first, alike}
 use Rattle.awk_resolve.proofs.ExpressionForms.{takes_behind}
 use Rattle.awk_resolve.proofs.PartForms.{texts, concatenated}

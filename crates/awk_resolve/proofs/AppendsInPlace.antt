@@ -17,7 +17,7 @@ use Rattle.awk_semantics.specs.definitions.Primitives.{number_of, read_name, rea
 use Rattle.awk_semantics.specs.definitions.Places.{Place as Target, AName, AnElement, read_place, assign_by}
 use Rattle.awk_semantics.specs.definitions.Semantics.{Functions, eval, place_of, key_of, eval_all}
 use Rattle.awk_semantics.specs.support.Outside.{read_outside}
-use Rattle.awk_semantics.proofs.KeepsForms.{keeps_eval, keeps_eval_all, keeps_read_place}
+use Rattle.awk_semantics.proofs.KeepsForms.{keeps_eval_all, keeps_read_place}
 use Rattle.awk_storage.specs.declared.position.Variable.{Variable}
 use Rattle.awk_storage.specs.declared.position.Variable.TheVariants as variable
 use Rattle.awk_storage.specs.declared.position.Place.{Place}
@@ -27,26 +27,29 @@ use Rattle.awk_resolve.specs.declared.builder.Builder.{Builder}
 use Rattle.awk_resolve.specs.declared.builder.Exits.{Exits}
 use Rattle.awk_resolve.specs.declared.node.Operand.{Operand}
 use Rattle.awk_resolve.specs.declared.node.Operand.TheVariants as operand
+use Rattle.awk_resolve.specs.declared.node.Key.{Key}
+use Rattle.awk_resolve.specs.declared.node.Key.TheVariants as key
 use Rattle.awk_resolve.specs.declared.node.Target.{Target as NodeTarget}
 use Rattle.awk_resolve.specs.declared.node.Target.TheVariants as target
 use Rattle.awk_resolve.specs.declared.node.Node.TheVariants as n
-use Rattle.awk_resolve.specs.definitions.Nodes.{operand_value, operand_values, append_operands_at, append_operands}
-use Rattle.awk_resolve.specs.support.Builds.{Grows, Pushes, Extends, IsIn, Program, Execute, Builds, Stands, IsAt, IsOperandOf, AreOperandsOf, FindsAnOperand, FindsEachOperand}
+use Rattle.awk_resolve.specs.definitions.Nodes.{operand_value, operand_values, key_value, append_operands_at, append_operands}
+use Rattle.awk_resolve.specs.support.Builds.{Grows, Pushes, Extends, IsIn, Program, Execute, key_value as subscripts_value, Builds, Stands, IsAt, IsOperandOf, AreOperandsOf, FindsAnOperand, FindsEachOperand}
 use Rattle.awk_resolve.specs.support.Parts.{is_concatenation, with_last, parts_of, parts_behind}
-use Rattle.awk_resolve.specs.support.Targets.{first_part, IsTargetOf, FindsATarget}
+use Rattle.awk_resolve.specs.support.Targets.{first_part, IsKeyOf, IsTargetOf, FindsATarget}
 use Rattle.awk_resolve.proofs.Calculus.{assoc_at, later_same, later_in, first_same, given, stopped}
 use Rattle.awk_resolve.proofs.Building.{grows, extends, still, placed, at_once}
-use Rattle.awk_resolve.proofs.ValueLists.{all_first, keyed}
-use Rattle.awk_resolve.proofs.Targets.{at_variable, at_element, assigned_by}
+use Rattle.awk_resolve.proofs.ValueLists.{all_first, keyed, keeps_key_value}
+use Rattle.awk_resolve.proofs.Positions.{at_variable, at_element, assigned_by}
 use Rattle.awk_resolve.proofs.PartForms.{texts, concatenated}
 use Rattle.awk_resolve.proofs.InPlaceForms.{still_operand}
 use Rattle.awk_resolve.proofs.PrintStatements.{values_then}
+use Rattle.awk_resolve.proofs.KeyForms.{key_read, key_then}
 use Rattle.awk_resolve.proofs.ChangeForms.{changed}
 
 -- an operand that is read gives what it gives, and changes nothing
 
-abbrev Stays : Run Value → State → Type 0
-Stays m s = (r : Result Value Halt) × (m s ≡ lift r s)
+abbrev Stays : {A : Type 0} → Run A → State → Type 0
+Stays {A} m s = (r : Result A Halt) × (m s ≡ lift r s)
 
 slot_stays : (x : Option (List ℕ)) (s : State) → Stays (read_slot x) s
 unfolding read_outside lift
@@ -78,6 +81,25 @@ operand_stays names (operand.FieldAt x) s =
     let is = variable_stays names x s in
     let stays = field_stays is.0 s in
     (stays.0, first_same (read_variable names x) (lift is.0) (λ w. number_of w >>= λ n. read_field n) s is.1 ∙ stays.1)
+
+-- and so do a key's operands
+then_stays : {A B : Type 0} (m : Run A) (f : A → Run B) (s : State) (r : Result A Halt) → m s ≡ lift r s → ((a : A) → Stays (f a) s) → Stays (m >>= f) s
+then_stays m f s (Ok a) is next = let stays = next a in (stays.0, first_same m (lift (Ok a)) f s is ∙ given a f s ∙ stays.1)
+then_stays m f s (Err h) is next = (Err h, first_same m (lift (Err h)) f s is ∙ stopped h f s)
+
+operands_stay : (names : List (List ℕ)) (list : List Operand) (s : State) → Stays (operand_values names list) s
+operands_stay names [] s = (Ok [], refl)
+operands_stay names (a ∷ list) s =
+    let first = operand_stays names a s in
+    let others = operands_stay names list s in
+    then_stays (operand_value names a) (λ w. operand_values names list >>= λ ws. ret (w ∷ ws)) s first.0 first.1
+    (λ w. then_stays (operand_values names list) (λ ws. ret (w ∷ ws)) s others.0 others.1 (λ ws. (Ok (w ∷ ws), refl)))
+
+key_stays : (names : List (List ℕ)) (k : Key) (s : State) → Stays (key_value names k) s
+key_stays names (key.At a) s = operand_stays names a s
+key_stays names (key.Joined list) s =
+    let stays = operands_stay names list.items s in
+    then_stays (operand_values names list.items) (λ ws. ret (value.Text (texts ws))) s stays.0 stays.1 (λ ws. (Ok (value.Text (texts ws)), refl))
 
 -- so it may be read once for twice
 twice_by : {B : Type 0} (m : Run Value) (f : Value → Value → Run B) (s : State) (r : Result Value Halt) → m s ≡ lift r s → (m >>= λ v. m >>= λ u. f v u) s ≡ (m >>= λ v. f v v) s
@@ -123,16 +145,16 @@ module _ {kinds : ProgramKinds} (p : Program kinds) where
       ∙ ap (λ y. (eval p.functions y >>= λ old. eval_all p.functions [] (parts_behind e) >>= λ ws. assign_by None (AName x) (behind old ws)) s) begins
 
   -- an assignment to an element, whose key is evaluated twice
-  element_assigned : (x : List ℕ) (key e : Expr) → is_concatenation e ≡ true → first_part e ≡ Element x (Cons key Nil) → (s : State)
-      → eval p.functions (Assign Plain (Element x (Cons key Nil)) e) s ≡ (eval p.functions key >>= λ v. eval p.functions key >>= λ u. read_element x (str_of u) >>= λ old. eval_all p.functions [] (parts_behind e) >>= λ ws. assign_by None (AnElement x (str_of v)) (behind old ws)) s
+  element_assigned : (x : List ℕ) (es : Exprs) (e : Expr) → is_concatenation e ≡ true → first_part e ≡ Element x es → (s : State)
+      → eval p.functions (Assign Plain (Element x es) e) s
+      ≡ (subscripts_value p.functions es >>= λ v. subscripts_value p.functions es >>= λ u. read_element x (str_of u) >>= λ old. eval_all p.functions [] (parts_behind e) >>= λ ws. assign_by None (AnElement x (str_of v)) (behind old ws)) s
   unfolding eval place_of
-  element_assigned x key e h begins s =
-      let es = Cons key Nil in
+  element_assigned x es e h begins s =
       let rest = λ (t : Target) (old : Value). eval_all p.functions [] (parts_behind e) >>= λ ws. assign_by None t (behind old ws) in
       assoc_at (key_of p.functions [] es) (λ k. ret (AnElement x k)) (λ t. eval p.functions e >>= λ w. assign_by None t w) s
       ∙ later_same (key_of p.functions [] es) _ (λ k. eval p.functions e >>= λ w. assign_by None (AnElement x k) w) s (λ k t. given (AnElement x k) (λ q. eval p.functions e >>= λ w. assign_by None q w) t)
       ∙ sym (keyed p.functions es (λ k. eval p.functions e >>= λ w. assign_by None (AnElement x k) w) s)
-      ∙ later_same (eval p.functions key) _ _ s (λ v t.
+      ∙ later_same (subscripts_value p.functions es) _ _ s (λ v t.
       let at = AnElement x (str_of v) in
       joined_first p.functions e h (λ w. assign_by None at w) t
       ∙ ap (λ y. (eval p.functions y >>= rest at) t) begins
@@ -140,22 +162,22 @@ module _ {kinds : ProgramKinds} (p : Program kinds) where
       ∙ sym (keyed p.functions es (λ k. read_element x k >>= rest at) t))
 
 module _ {kinds : ProgramKinds} {parameters : List FormalParameter} (p : Program kinds) {b : Builder} (g : Grows b p.all) where
-  appended_at : (found : List Operand) (es : Exprs) → AreOperandsOf kinds parameters b found es → {t : Target} {q : Place} {key : Value} → IsAt p parameters t q key → (m : ℕ) (s : State) → IsIn p.tables parameters m s
-      → append_operands_at p.tables.names q key found s ≡ append_at p t es s
-  appended_at found es are {t = t} {q = q} {key = key} at m s i =
-      first_same (read_at p.tables.names q key) (read_place t) (λ old. operand_values p.tables.names found >>= λ ws. assign_by_at p.tables.names None q key (behind old ws)) s (sym (at.reads m s i))
+  appended_at : (found : List Operand) (es : Exprs) → AreOperandsOf kinds parameters b found es → {t : Target} {q : Place} {w : Value} → IsAt p parameters t q w → (m : ℕ) (s : State) → IsIn p.tables parameters m s
+      → append_operands_at p.tables.names q w found s ≡ append_at p t es s
+  appended_at found es are {t = t} {q = q} {w = x} at m s i =
+      first_same (read_at p.tables.names q x) (read_place t) (λ old. operand_values p.tables.names found >>= λ ws. assign_by_at p.tables.names None q x (behind old ws)) s (sym (at.reads m s i))
       ∙ later_in _ _ s m (keeps_read_place t) i (λ old u j.
-      values_then p g found es are (λ ws. assign_by_at p.tables.names None q key (behind old ws)) m u j
+      values_then p g found es are (λ ws. assign_by_at p.tables.names None q x (behind old ws)) m u j
       ∙ later_in _ _ u m (keeps_eval_all p.functions p.calls.keep [] es) j (λ ws v l. sym (assigned_by at None m (behind old ws) v l)))
 
-  -- where the key is an operand, it may be evaluated once
-  once : {a : Operand} {key : Expr} → IsOperandOf kinds parameters b a key → {B : Type 0} (f : Value → Value → Run B) (m : ℕ) (s : State) → IsIn p.tables parameters m s
-      → (eval p.functions key >>= λ v. eval p.functions key >>= λ u. f v u) s ≡ (operand_value p.tables.names a >>= λ v. f v v) s
-  once {a = a} {key = key} is f m s i =
-      let same = is.is p g m s i in
-      let stays = operand_stays p.tables.names a s in
-      twice_by (eval p.functions key) f s stays.0 (sym same ∙ stays.1)
-      ∙ first_same (eval p.functions key) (operand_value p.tables.names a) (λ v. f v v) s (sym same)
+  -- a key that is read where it stands may be evaluated once
+  once : (k : Key) (es : Exprs) → IsKeyOf kinds parameters b k es → {B : Type 0} (f : Value → Value → Run B) (m : ℕ) (s : State) → IsIn p.tables parameters m s
+      → (subscripts_value p.functions es >>= λ v. subscripts_value p.functions es >>= λ u. f v u) s ≡ (key_value p.tables.names k >>= λ v. f v v) s
+  once k es is f m s i =
+      let same = key_read p g k es is m s i in
+      let stays = key_stays p.tables.names k s in
+      twice_by (subscripts_value p.functions es) f s stays.0 (sym same ∙ stays.1)
+      ∙ first_same (subscripts_value p.functions es) (key_value p.tables.names k) (λ v. f v v) s (sym same)
 
 module _ {kinds : ProgramKinds} {parameters : List FormalParameter} (p : Program kinds) {b c : Builder} (g : Grows b p.all) (k : Grows c p.all) where
   appended : (t : NodeTarget) (y e : Expr) → IsTargetOf kinds parameters b t y → is_concatenation e ≡ true → y ≡ first_part e → (found : List Operand) → AreOperandsOf kinds parameters c found (parts_behind e)
@@ -166,17 +188,17 @@ module _ {kinds : ProgramKinds} {parameters : List FormalParameter} (p : Program
       appended_at p k found (parts_behind e) are at m s i
       ∙ sym (variable_assigned p is.name e h (sym begins ∙ is.is) s)
       ∙ ap (λ z. eval p.functions (Assign Plain z e) s) (sym is.is)
-  appended (target.Element a o) y e is h begins found are m s i =
+  appended (target.Element a l) y e is h begins found are m s i =
       let x = is.name in
-      let same = is.stands.is p g m s i in
+      let es = is.subscripts in
       let rest = λ (w : Value). append_at p (AnElement x (str_of w)) (parts_behind e) in
-      first_same (operand_value p.tables.names o) (eval p.functions is.key) (λ w. append_operands_at p.tables.names (place.Element a) w found) s same
-      ∙ later_in _ rest s m (keeps_eval p.functions p.calls.keep is.key) i (λ w u j.
+      key_then p g l es is.key (λ w. append_operands_at p.tables.names (place.Element a) w found) m s i
+      ∙ later_in _ rest s m (keeps_key_value p.functions p.calls.keep es) i (λ w u j.
       let at : IsAt p parameters (AnElement x (str_of w)) (place.Element a) w = at_element is.array in
       appended_at p k found (parts_behind e) are at m u j)
-      ∙ first_same (eval p.functions is.key) (operand_value p.tables.names o) rest s (sym same)
-      ∙ sym (once p g is.stands (λ v u. read_element x (str_of u) >>= λ old. eval_all p.functions [] (parts_behind e) >>= λ ws. assign_by None (AnElement x (str_of v)) (behind old ws)) m s i)
-      ∙ sym (element_assigned p x is.key e h (sym begins ∙ is.is) s)
+      ∙ sym (key_then p g l es is.key rest m s i)
+      ∙ sym (once p g l es is.key (λ v u. read_element x (str_of u) >>= λ old. eval_all p.functions [] (parts_behind e) >>= λ ws. assign_by None (AnElement x (str_of v)) (behind old ws)) m s i)
+      ∙ sym (element_assigned p x es e h (sym begins ∙ is.is) s)
       ∙ ap (λ z. eval p.functions (Assign Plain z e) s) (sym is.is)
 
 pub append_operands_built : {kinds : ProgramKinds} {parameters : List FormalParameter} {a b c d : Builder} {exits : Exits} {i : ℕ} {y e : Expr} {t : NodeTarget} {found : Vec Operand} → Stands exits.next a → FindsATarget kinds parameters a b t y

@@ -1,23 +1,20 @@
--- Statements that change a variable, built as one node, do what they mean.
-use Rattle.std.proofs.Common.{◌≡◌, ℕ, pos, List, Option, Some, None, refl, sym, subst, ap, ◌∙◌, arith}
+-- Statements that change a target, built as one node, do what they mean.
+use Rattle.std.proofs.Common.{◌≡◌, ℕ, pos, List, Option, Some, None, refl, sym, ap, ◌∙◌, arith}
 use Rattle.awk_value.specs.declared.value.Value.{Value}
 use Rattle.awk_value.specs.declared.value.Value.TheVariants as value
 use Rattle.awk_lex.specs.declared.token.AssignmentOperator.{AssignmentOperator}
 use Rattle.awk_lex.specs.declared.token.IncrementOperator.{IncrementOperator}
 use Rattle.awk_lex.specs.declared.token.IncrementOperator.TheVariants as increment_operator
-use Rattle.awk_grammar.specs.Tree.{Expr, Number, Name, Assign, PreIncrement, PostIncrement, Expression, Simple}
+use Rattle.awk_grammar.specs.Tree.{Expr, Number, Assign, PreIncrement, PostIncrement, Expression, Simple}
 use Rattle.awk_kinds.specs.definitions.Kinds.{FormalParameter}
 use Rattle.awk_kinds.specs.definitions.Signatures.{ProgramKinds}
 use Rattle.awk_semantics.specs.definitions.State.{State, Run, ◌>>=◌}
 use Rattle.awk_semantics.specs.definitions.Operators.{by_one, one, operator_of}
 use Rattle.awk_semantics.specs.definitions.Primitives.{spend}
-use Rattle.awk_semantics.specs.definitions.Places.{AName, assign_by, post_increment}
+use Rattle.awk_semantics.specs.definitions.Places.{assign_by}
 use Rattle.awk_semantics.specs.definitions.Semantics.{Functions, eval, place_of}
-use Rattle.awk_semantics.proofs.KeepsForms.{keeps_spend, keeps_eval}
-use Rattle.awk_storage.specs.declared.position.Variable.{Variable}
+use Rattle.awk_semantics.proofs.KeepsForms.{keeps_spend}
 use Rattle.awk_storage.specs.declared.position.Place.{Place}
-use Rattle.awk_storage.specs.declared.position.Place.TheVariants as place
-use Rattle.awk_storage.specs.definitions.Positions.{assign_by_at, post_increment_at}
 use Rattle.awk_resolve.specs.declared.builder.Builder.{Builder}
 use Rattle.awk_resolve.specs.declared.builder.Exits.{Exits}
 use Rattle.awk_resolve.specs.declared.node.ValueNode.TheVariants as v
@@ -26,17 +23,19 @@ use Rattle.awk_resolve.specs.declared.node.Node.TheVariants as n
 use Rattle.awk_resolve.specs.declared.node.EffectNode.TheVariants as e
 use Rattle.awk_resolve.specs.declared.node.Operand.{Operand}
 use Rattle.awk_resolve.specs.declared.node.Operand.TheVariants as operand
-use Rattle.awk_resolve.specs.definitions.Nodes.{operand_value}
-use Rattle.awk_resolve.specs.support.Builds.{Grows, Pushes, Extends, IsIn, Program, Evaluate, EvaluateOperand, Execute, leave_by, place_in, Places, Builds, Stands, ExitsStand, FindsNamed, FindsAnOperand, FindsPlace, IsAt}
+use Rattle.awk_resolve.specs.declared.node.Target.{Target}
+use Rattle.awk_resolve.specs.definitions.Nodes.{assign_target, raise_target}
+use Rattle.awk_resolve.specs.support.Builds.{Grows, Pushes, Extends, IsIn, Program, Evaluate, EvaluateOperand, Execute, leave_by, place_in, Places, Builds, Stands, ExitsStand, FindsAnOperand, FindsPlace}
 use Rattle.awk_resolve.specs.declared.scope.Scope.{Scope}
 use Rattle.awk_resolve.specs.support.Operands.{assigned_by_one}
 use Rattle.awk_resolve.specs.support.Scopes.{LowersChange}
+use Rattle.awk_resolve.specs.support.Targets.{FindsATarget}
 use Rattle.awk_resolve.proofs.Calculus.{assoc_at, later_same, later_in, first_same, given}
 use Rattle.awk_resolve.proofs.Building.{grows, extends, still, behind, placed, at_once}
-use Rattle.awk_resolve.proofs.Targets.{at_variable, assigned_by, incremented}
+use Rattle.awk_resolve.proofs.KeyForms.{target_assigned, target_raised}
 use Rattle.awk_resolve.proofs.Taking.{Takes, discarded, assign_node, raise_node, takes_stand}
 use Rattle.awk_resolve.proofs.ExpressionForms.{number_lowered, assign_taken, post_increment_taken}
-use Rattle.awk_resolve.proofs.InPlaceForms.{number_operand}
+use Rattle.awk_resolve.proofs.InPlaceForms.{number_operand, still_operand}
 use Rattle.awk_resolve.proofs.Passing.{expression_then, simple_then}
 use Rattle.awk_resolve.proofs.SimpleStatements.{stepped}
 
@@ -62,21 +61,15 @@ module _ {kinds : ProgramKinds} {parameters : List FormalParameter} where
         ∙ sym (simple_then p.functions (leave_by exits (place_in p m) vs) s (Expression e) ∙ expression_then p.functions (leave_by exits (place_in p m) vs) s e);
   }
 
-module _ {kinds : ProgramKinds} {parameters : List FormalParameter} {a b c d : Builder} {exits : Exits} {i : ℕ} {x : Expr} {variable : Variable} (h : Stands exits.next a) where
-  pub update_built : {y : Expr} {right : Operand} (o : AssignmentOperator) → FindsAnOperand kinds parameters a b right y → FindsNamed kinds parameters b c variable x → Pushes c d (n.Update o variable right exits.next) i
-      → Builds kinds parameters a d i (Execute (Simple (Expression (Assign o x y))) exits)
-  unfolding eval place_of
-  update_built {y = y} {right = right} o f k q =
-      let before = extends f.extends k.finds.extends in
-      let node = placed q (still before h).below in
-      subst (λ e. Builds kinds parameters a d i (Execute (Simple (Expression (Assign o e y))) exits)) (sym k.is)
-      (changed (Assign o (Name k.name) y) (λ p. operand_value p.tables.names right >>= λ w. assign_by_at p.tables.names (operator_of o) (place.Variable variable) value.Nothing w) before (still before h) node
-      (λ p g m vs s. at_once (node.is p g m) vs s)
-      (λ p g m s l.
-      let at : IsAt p parameters (AName k.name) (place.Variable variable) value.Nothing = at_variable (grows node.extends.grows g) k.finds.is in
-      first_same (operand_value p.tables.names right) (eval p.functions y) _ s (f.is.is p (grows k.finds.extends.grows (grows node.extends.grows g)) m s l)
-      ∙ later_in _ _ s m (keeps_eval p.functions p.calls.keep y) l (λ w u j. sym (assigned_by at (operator_of o) m w u j))
-      ∙ sym (given (AName k.name) (λ t. eval p.functions y >>= λ w. assign_by (operator_of o) t w) s)))
+-- a target gets an operand
+pub update_built : {kinds : ProgramKinds} {parameters : List FormalParameter} {a b c d : Builder} {exits : Exits} {i : ℕ} {x y : Expr} {t : Target} {right : Operand} → Stands exits.next a → (o : AssignmentOperator) → FindsAnOperand kinds parameters a b right y
+    → FindsATarget kinds parameters b c t x → Pushes c d (n.Update o t right exits.next) i → Builds kinds parameters a d i (Execute (Simple (Expression (Assign o x y))) exits)
+update_built {x = x} {y = y} {t = t} {right = right} h o f k q =
+    let before = extends f.extends k.extends in
+    let node = placed q (still before h).below in
+    changed (Assign o x y) (λ p. assign_target p.tables.names o t right) before (still before h) node
+    (λ p g m vs s. at_once (node.is p g m) vs s)
+    (λ p g m s l. target_assigned p (grows node.extends.grows g) o t x k.is right y (still_operand k.extends f.is) m s l)
 
 -- an expression whose value is of no use, behind a step
 pub discarded_built : {kinds : ProgramKinds} {parameters : List FormalParameter} {a c d : Builder} {exits : Exits} {i j : ℕ} (x : Expr) → Takes kinds parameters a c i (discarded exits.next) (λ p vs. eval p.functions x) (λ vs. vs) → Pushes c d (n.Effect e.Spend i) j
@@ -95,19 +88,14 @@ module _ {kinds : ProgramKinds} {parameters : List FormalParameter} {a b c : Bui
       → Builds kinds parameters a f j (Execute (Simple (Expression (PostIncrement o x))) exits)
   post_raise_built o q r t = discarded_built (PostIncrement o x) (post_increment_taken k o (raise_node (still k.extends h) q) r) t
 
-module _ {kinds : ProgramKinds} {parameters : List FormalParameter} {a b c : Builder} {exits : Exits} {i : ℕ} {x : Expr} {variable : Variable} (h : Stands exits.next a) (k : FindsNamed kinds parameters a b variable x) where
-  pub post_update_built : (o : IncrementOperator) → Pushes b c (n.Increment o variable exits.next) i
-      → Builds kinds parameters a c i (Execute (Simple (Expression (PostIncrement o x))) exits)
-  unfolding eval place_of
-  post_update_built o q =
-      let node = placed q (still k.finds.extends h).below in
-      subst (λ e. Builds kinds parameters a c i (Execute (Simple (Expression (PostIncrement o e))) exits)) (sym k.is)
-      (changed (PostIncrement o (Name k.name)) (λ p. post_increment_at p.tables.names o (place.Variable variable) value.Nothing) k.finds.extends (still k.finds.extends h) node
-      (λ p g m vs s. at_once (node.is p g m) vs s)
-      (λ p g m s l.
-      let at : IsAt p parameters (AName k.name) (place.Variable variable) value.Nothing = at_variable (grows node.extends.grows g) k.finds.is in
-      sym (incremented at o m s l)
-      ∙ sym (given (AName k.name) (λ t. post_increment o t) s)))
+-- a target is raised
+pub post_update_built : {kinds : ProgramKinds} {parameters : List FormalParameter} {a b c : Builder} {exits : Exits} {i : ℕ} {x : Expr} {t : Target} → Stands exits.next a → FindsATarget kinds parameters a b t x → (o : IncrementOperator) → Pushes b c (n.Increment o t exits.next) i
+    → Builds kinds parameters a c i (Execute (Simple (Expression (PostIncrement o x))) exits)
+post_update_built {x = x} {t = t} h k o q =
+    let node = placed q (still k.extends h).below in
+    changed (PostIncrement o x) (λ p. raise_target p.tables.names o t) k.extends (still k.extends h) node
+    (λ p g m vs s. at_once (node.is p g m) vs s)
+    (λ p g m s l. target_raised p (grows node.extends.grows g) o t x k.is m s l)
 
 -- to raise is to assign what is made of 1
 raised_by_one : (functions : Functions) (o : IncrementOperator) (x : Expr) (s : State) → eval functions (Assign (assigned_by_one o) x (Number (pos 1))) s ≡ eval functions (PreIncrement o x) s
@@ -133,7 +121,7 @@ told_as {exits = exits} e e' same q = record {
 }
 
 module _ {kinds : ProgramKinds} {parameters : List FormalParameter} {a b c : Builder} {exits : Exits} {i : ℕ} {x : Expr} (h : Stands exits.next a) where
-  pub pre_update_built : {variable : Variable} → FindsNamed kinds parameters a b variable x → (o : IncrementOperator) → Pushes b c (n.Update (assigned_by_one o) variable (operand.Constant one) exits.next) i
+  pub pre_update_built : {t : Target} → FindsATarget kinds parameters a b t x → (o : IncrementOperator) → Pushes b c (n.Update (assigned_by_one o) t (operand.Constant one) exits.next) i
       → Builds kinds parameters a c i (Execute (Simple (Expression (PreIncrement o x))) exits)
   pre_update_built k o q = told_as (Assign (assigned_by_one o) x (Number (pos 1))) (PreIncrement o x) (λ functions s. raised_by_one functions o x s) (update_built h (assigned_by_one o) (number_operand (pos 1)) k q)
 

@@ -35,7 +35,7 @@ use Rattle.awk_resolve.proofs.Building.{grows, extends, still, front_then, named
 use Rattle.awk_resolve.proofs.Variables.{front_at}
 use Rattle.awk_resolve.proofs.Elements.{reads_element, has_the_element}
 use Rattle.awk_resolve.proofs.ValueLists.{keyed}
-use Rattle.awk_resolve.proofs.Targets.{assigned_by, incremented}
+use Rattle.awk_resolve.proofs.Positions.{assigned_by, incremented}
 use Rattle.awk_resolve.proofs.Taking.{Goal, Takes, node, value_first, key_first, place_first, alike, evaluates}
 
 module _ {kinds : ProgramKinds} {parameters : List FormalParameter} {a b : Builder} {i next : ℕ} where
@@ -106,20 +106,20 @@ module _ {kinds : ProgramKinds} {parameters : List FormalParameter} {a b c : Bui
   unfolding eval
   unary_lowered {e = e} u h q r = evaluates (value_first (λ vs. vs) (node h q) e r (λ w vs. refl)) (λ vs. refl) (Unary u e) (λ p g m vs s l. refl)
 
-  pub element_lowered : {array : Array} {x : List ℕ} {es : Exprs} → Stands next a → IsArrayOf kinds parameters array x → Pushes a b (n.Value (v.ReadElement array) next) j → Builds kinds parameters b c i (EvaluateKey es j) → Builds kinds parameters a c i (Evaluate (Element x es) next)
+  pub element_lowered : {array : Array} {x : List ℕ} {es : Exprs} → Stands next a → IsArrayOf kinds parameters array x → Pushes a b (n.Value (v.ReadElement array None) next) j → Builds kinds parameters b c i (EvaluateKey es j) → Builds kinds parameters a c i (Evaluate (Element x es) next)
   unfolding eval
   element_lowered {array = array} {x = x} {es = es} h is q r =
       evaluates (key_first (λ vs. vs) (node h q) es r (λ w vs. refl)) (λ vs. refl) (Element x es) (λ p g m vs s l.
       keyed p.functions es (λ key. read_element_of array key) s
       ∙ later_in _ _ s m (keeps_key_of p.functions p.calls.keep [] es) l (λ key u k. sym (reads_element array x u (is.is p m u k) key)))
 
-  pub membership_lowered : {array : Array} {x : List ℕ} {e : Expr} → Stands next a → IsArrayOf kinds parameters array x → Pushes a b (n.Value (v.Contains array) next) j → Builds kinds parameters b c i (Evaluate e j) → Builds kinds parameters a c i (Evaluate (Membership e x) next)
+  pub membership_lowered : {array : Array} {x : List ℕ} {e : Expr} → Stands next a → IsArrayOf kinds parameters array x → Pushes a b (n.Value (v.Contains array None) next) j → Builds kinds parameters b c i (Evaluate e j) → Builds kinds parameters a c i (Evaluate (Membership e x) next)
   unfolding eval
   membership_lowered {array = array} {x = x} {e = e} h is q r =
       evaluates (value_first (λ vs. vs) (node h q) e r (λ w vs. refl)) (λ vs. refl) (Membership e x) (λ p g m vs s l.
       later_in _ _ s m (keeps_eval p.functions p.calls.keep e) l (λ w u k. first_same _ _ _ u (sym (has_the_element array x u (is.is p m u k) (str_of w)))))
 
-  pub list_membership_lowered : {array : Array} {x : List ℕ} {es : Exprs} → Stands next a → IsArrayOf kinds parameters array x → Pushes a b (n.Value (v.Contains array) next) j → Builds kinds parameters b c i (EvaluateKey es j) → Builds kinds parameters a c i (Evaluate (ListMembership es x) next)
+  pub list_membership_lowered : {array : Array} {x : List ℕ} {es : Exprs} → Stands next a → IsArrayOf kinds parameters array x → Pushes a b (n.Value (v.Contains array None) next) j → Builds kinds parameters b c i (EvaluateKey es j) → Builds kinds parameters a c i (Evaluate (ListMembership es x) next)
   unfolding eval
   list_membership_lowered {array = array} {x = x} {es = es} h is q r =
       evaluates (key_first (λ vs. vs) (node h q) es r (λ w vs. refl)) (λ vs. refl) (ListMembership es x) (λ p g m vs s l.

@@ -39,6 +39,8 @@ use Rattle.awk_lex.specs.declared.token.AssignmentOperator.{AssignmentOperator}
 use Rattle.awk_grammar.specs.declared.tree.BinaryOperator.{BinaryOperator}
 use Rattle.awk_resolve.specs.declared.node.Operand.{Operand}
 use Rattle.awk_resolve.specs.declared.node.Operand.TheVariants as operand
+use Rattle.awk_resolve.specs.declared.node.Key.{Key}
+use Rattle.awk_resolve.specs.declared.node.Key.TheVariants as key
 use Rattle.awk_resolve.specs.declared.node.Target.{Target}
 use Rattle.awk_resolve.specs.declared.node.Target.TheVariants as target
 use Rattle.awk_resolve.specs.declared.node.Source.{Source}
@@ -48,7 +50,7 @@ use Rattle.awk_resolve.specs.declared.node.ValueNode.{ValueNode}
 use Rattle.awk_resolve.specs.declared.node.ValueNode.TheVariants as v
 use Rattle.awk_resolve.specs.declared.node.EffectNode.{EffectNode}
 use Rattle.awk_resolve.specs.declared.node.EffectNode.TheVariants as e
-use Rattle.awk_resolve.specs.definitions.Nodes.{operand_value, operated_with, operated_on, operand_values, assign_variable, append_to, append_operands_at, append_operands, append_by_step, print_operands, update, increment, Tables, first, second, taken, given_by, call_at, substitute_by, substitute, getline_by, value_of, target_by, effect_of}
+use Rattle.awk_resolve.specs.definitions.Nodes.{operand_value, operated_with, operated_on, operand_values, key_value, assign_variable, append_to, append_operands_at, append_operands, append_by_step, print_operands, assign_target, raise_target, update, increment, Tables, first, second, taken, given_by, call_at, substitute_by, substitute, getline_by, value_of, target_by, effect_of}
 
 pub record Falls {A : Type 0} (m : Run A) : Type 0 where
   pub falls : (s : State) → (m s).state.steps ≤ s.steps
@@ -184,18 +186,22 @@ module _ (names : List (List ℕ)) where
   pub operated_on_falls : (o : BinaryOperator) (a b : Operand) → Falls (operated_on names o a b)
   operated_on_falls o a b = then_falls _ (operand_falls a) (λ x. operated_with_falls o x b)
 
+  key_falls : (k : Key) → Falls (key_value names k)
+  key_falls (key.At a) = operand_falls a
+  key_falls (key.Joined list) = then_falls _ (operands_fall list.items) (λ ws. lift_falls _)
+
   assign_variable_falls : (o : AssignmentOperator) (x : Variable) (w : Value) → Falls (assign_variable names o x w)
   assign_variable_falls o x w = assign_by_falls names (operator_of o) (place.Variable x) value.Nothing w
 
   pub append_to_falls : (x : Variable) (ws : List Value) → Falls (append_to names x ws)
   append_to_falls x ws = then_falls _ (read_variable_falls names x) (λ old. assign_by_falls names None (place.Variable x) value.Nothing (value.Text (str_of old ++ concat (map str_of ws))))
 
-  append_operands_at_falls : (p : Place) (key : Value) (list : List Operand) → Falls (append_operands_at names p key list)
-  append_operands_at_falls p key list = then_falls _ (read_at_falls names p key) (λ old. then_falls _ (operands_fall list) (λ ws. assign_by_falls names None p key (value.Text (str_of old ++ concat (map str_of ws)))))
+  append_operands_at_falls : (p : Place) (w : Value) (list : List Operand) → Falls (append_operands_at names p w list)
+  append_operands_at_falls p w list = then_falls _ (read_at_falls names p w) (λ old. then_falls _ (operands_fall list) (λ ws. assign_by_falls names None p w (value.Text (str_of old ++ concat (map str_of ws)))))
 
   append_operands_falls : (t : Target) (list : List Operand) → Falls (append_operands names t list)
   append_operands_falls (target.Variable x) list = append_operands_at_falls (place.Variable x) value.Nothing list
-  append_operands_falls (target.Element a key) list = then_falls _ (operand_falls key) (λ w. append_operands_at_falls (place.Element a) w list)
+  append_operands_falls (target.Element a k) list = then_falls _ (key_falls k) (λ w. append_operands_at_falls (place.Element a) w list)
 
   pub append_by_step_falls : (t : Target) (list : List Operand) → Falls (append_by_step names t list)
   append_by_step_falls t list = then_falls _ (kept_falls keeps_spend) (λ _. append_operands_falls t list)
@@ -203,11 +209,19 @@ module _ (names : List (List ℕ)) where
   pub print_operands_falls : (list : List Operand) → Falls (print_operands names list)
   print_operands_falls list = then_falls _ (operands_fall list) (λ ws. kept_falls (keeps_print_line 0 ws))
 
-  pub update_falls : (o : AssignmentOperator) (x : Variable) (a : Operand) → Falls (update names o x a)
-  update_falls o x a = then_falls _ (kept_falls keeps_spend) (λ _. then_falls _ (operand_falls a) (λ w. assign_variable_falls o x w))
+  assign_target_falls : (o : AssignmentOperator) (t : Target) (a : Operand) → Falls (assign_target names o t a)
+  assign_target_falls o (target.Variable x) a = then_falls _ (operand_falls a) (λ w. assign_variable_falls o x w)
+  assign_target_falls o (target.Element e k) a = then_falls _ (key_falls k) (λ x. then_falls _ (operand_falls a) (λ w. assign_by_falls names (operator_of o) (place.Element e) x w))
 
-  pub increment_falls : (o : IncrementOperator) (x : Variable) → Falls (increment names o x)
-  increment_falls o x = then_falls _ (kept_falls keeps_spend) (λ _. post_falls names o (place.Variable x) value.Nothing)
+  raise_target_falls : (o : IncrementOperator) (t : Target) → Falls (raise_target names o t)
+  raise_target_falls o (target.Variable x) = post_falls names o (place.Variable x) value.Nothing
+  raise_target_falls o (target.Element e k) = then_falls _ (key_falls k) (λ x. post_falls names o (place.Element e) x)
+
+  pub update_falls : (o : AssignmentOperator) (t : Target) (a : Operand) → Falls (update names o t a)
+  update_falls o t a = then_falls _ (kept_falls keeps_spend) (λ _. assign_target_falls o t a)
+
+  pub increment_falls : (o : IncrementOperator) (t : Target) → Falls (increment names o t)
+  increment_falls o t = then_falls _ (kept_falls keeps_spend) (λ _. raise_target_falls o t)
 
 -- built-in functions and calls
 
@@ -282,14 +296,17 @@ module _ (tables : Tables) where
     value_falls (v.Change o) vs = lift_falls _
     value_falls (v.ConcatenateAll k) vs = lift_falls _
     value_falls v.ReadField vs = then_falls _ (kept_falls (keeps_number_of (first vs))) (λ k. kept_falls (keeps_read_field k))
-    value_falls (v.ReadElement a) vs = read_element_falls a _
-    value_falls (v.Contains a) vs = then_falls _ (contains_falls a _) (λ b. lift_falls _)
+    value_falls (v.ReadElement a None) vs = read_element_falls a _
+    value_falls (v.ReadElement a (Some k)) vs = then_falls _ (key_falls tables.names k) (λ w. read_element_falls a (str_of w))
+    value_falls (v.Contains a None) vs = then_falls _ (contains_falls a _) (λ b. lift_falls _)
+    value_falls (v.Contains a (Some k)) vs = then_falls _ (key_falls tables.names k) (λ w. then_falls _ (contains_falls a (str_of w)) (λ b. lift_falls _))
     value_falls (v.Key k) vs = then_falls _ (kept_falls (keeps_joined_key (taken k vs))) (λ key. lift_falls _)
     value_falls v.FieldNumber vs = then_falls _ (kept_falls (keeps_number_of (first vs))) (λ k. lift_falls _)
     value_falls (v.Assign o p) vs = assign_by_falls tables.names (operator_of o) p (second vs) (first vs)
     value_falls (v.Append x) vs = then_falls _ (lift_falls _) (λ w. assign_by_falls tables.names None (place.Variable x) value.Nothing w)
     value_falls (v.PreIncrement o p) vs = assign_by_falls tables.names (Some (by_one o)) p (first vs) one
     value_falls (v.PostIncrement o p) vs = post_falls tables.names o p (first vs)
+    value_falls (v.PostIncrementAt o t) vs = raise_target_falls tables.names o t
     value_falls (v.Load p) vs = read_at_falls tables.names p (first vs)
     value_falls v.RecordLength vs = kept_falls keeps_record_length
     value_falls (v.CountElements a) vs = count_falls a

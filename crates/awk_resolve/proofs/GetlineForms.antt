@@ -23,7 +23,7 @@ use Rattle.awk_resolve.specs.support.Builds.{Pushes, IsIn, Program, Evaluate, Ev
 use Rattle.awk_resolve.specs.support.Operands.{source_of}
 use Rattle.awk_resolve.proofs.Calculus.{assoc_at, later_same, later_in, given}
 use Rattle.awk_resolve.proofs.Building.{grows, extends, same, still}
-use Rattle.awk_resolve.proofs.Targets.{received, main_got, named_got}
+use Rattle.awk_resolve.proofs.Positions.{received, main_got, named_got}
 use Rattle.awk_resolve.proofs.Taking.{Goal, Takes, node, value_first, place_first, evaluates}
 
 -- what may be left out

@@ -50,8 +50,8 @@ module _ (tables : Tables) (functions : Functions) (again : ℕ → Cont) where
   made_alike f g k same (n.TestInside i here other) h = λ j vs. is_inside i >>= λ inside. choose inside (same here h.0 j vs) (same other h.1 j vs)
   made_alike f g k same (n.Assign o p i) h = λ j vs. value_of tables functions (v.Assign o p) vs >>= λ _. same i h j (drop (popped (v.Assign o p)) vs)
   made_alike f g k same (n.Raise o p i) h = λ j vs. value_of tables functions (v.PostIncrement o p) vs >>= λ _. same i h j (drop (popped (v.PostIncrement o p)) vs)
-  made_alike f g k same (n.Update o x a i) h = λ j vs. update tables.names o x a >>= λ _. same i h j vs
-  made_alike f g k same (n.Increment o x i) h = λ j vs. increment tables.names o x >>= λ _. same i h j vs
+  made_alike f g k same (n.Update o t a i) h = λ j vs. update tables.names o t a >>= λ _. same i h j vs
+  made_alike f g k same (n.Increment o t i) h = λ j vs. increment tables.names o t >>= λ _. same i h j vs
   made_alike f g k same (n.AppendTo x count i) h = λ j vs. append_to tables.names x (taken count vs) >>= λ _. same i h j (drop count vs)
   made_alike f g k same (n.AppendOperands t list i) h = λ j vs. append_by_step tables.names t list.items >>= λ _. same i h j vs
   made_alike f g k same (n.Print list i) h = λ j vs. print_operands tables.names list.items >>= λ _. same i h j vs

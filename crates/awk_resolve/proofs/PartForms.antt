@@ -139,7 +139,7 @@ whole_lowered {next = next} {e = e} q = record {
 }
 
 -- the parts of an expression that is no concatenation
-parts_whole : (e : Expr) → is_concatenation e ≡ false → parts_of e ≡ Cons e Nil
+pub parts_whole : (e : Expr) → is_concatenation e ≡ false → parts_of e ≡ Cons e Nil
 parts_whole (Binary Concatenate a b) h = absurd (cc)
 parts_whole e h = refl
 

@@ -33,7 +33,7 @@ use Rattle.awk_resolve.specs.support.Builds.{Grows, Pushes, Extends, IsIn, Progr
 use Rattle.awk_resolve.specs.support.Operands.{FindsPattern, substitution}
 use Rattle.awk_resolve.proofs.Calculus.{assoc_at, later_same, later_in, first_same, given}
 use Rattle.awk_resolve.proofs.Building.{grows, same, still}
-use Rattle.awk_resolve.proofs.Targets.{at_field, exchanged_in}
+use Rattle.awk_resolve.proofs.Positions.{at_field, exchanged_in}
 use Rattle.awk_resolve.proofs.Taking.{pushed, Takes, node, takes_stand, value_first, place_first, taken_first, evaluates}
 use Rattle.awk_resolve.proofs.ExpressionForms.{takes_behind, ere_added, ere_there}
 use Rattle.awk_resolve.proofs.PatternForms.{evaluated_unless_ere, ere_first}

@@ -1,20 +1,20 @@
 // Operands that are appended to the text of a variable or an element, as one node: `x = x e`, `a[k] = a[k] e`.
 
-ghost use Rattle.std.specs.Prelude.{◌≡◌, true, IfOk, IfSome};
-ghost use Rattle.awk_grammar.specs.Tree.{Assign, Element, Cons, Nil};
+ghost use Rattle.std.specs.Prelude.{◌≡◌, true, IfOk};
+ghost use Rattle.awk_grammar.specs.Tree.{Assign};
 ghost use Rattle.awk_grammar.specs.View.{expr_of, exprs_of};
 ghost use Rattle.awk_resolve.specs.support.Builds.{ExitsStand};
 ghost use Rattle.awk_resolve.specs.support.Parts.{parts_behind};
 ghost use Rattle.awk_resolve.specs.support.Scopes.{FindsOperands, LowersChange};
-ghost use Rattle.awk_resolve.specs.support.Targets.{first_part, FindsTarget};
+ghost use Rattle.awk_resolve.specs.support.Targets.{first_part};
 
 use crate::builder::{Builder, Exits};
 use crate::expressions::is_concatenation;
-use crate::node::{Node, Operand, Target};
+use crate::node::{Node, Operand};
 use crate::scope::Scope;
+use crate::targets::only;
 use awk_grammar::tree::{BinaryOperator, Expr};
 use awk_lex::token::AssignmentOperator;
-use awk_value::Bytes;
 use std::alloc::AllocError;
 
 /// The part that a concatenation begins with; any other expression is it.
@@ -24,16 +24,6 @@ fn first_part(e: &Expr) -> &Expr
     match e {
         Expr::Binary(BinaryOperator::Concatenate, a, _) => first_part(a),
         e => e,
-    }
-}
-
-/// The only expression of a list, if it has one.
-fn only(list: &[Expr]) -> Option<&Expr>
-    ensures { IfSome result (λ e. exprs_of list.now ≡ Cons (expr_of e.now) Nil) }
-{
-    match list {
-        [e] => Some(e),
-        _ => None,
     }
 }
 
@@ -86,36 +76,6 @@ fn is_same_place(a: &Expr, b: &Expr) -> bool
 }
 
 impl Builder {
-    /// The target that an expression is, if it is a variable, or the element at an operand.
-    fn target_of(&mut self, scope: &Scope, place: &Expr) -> Result<Option<Target>, AllocError>
-        ensures { IfOk result (λ target. FindsTarget scope.now self.old self.new target (expr_of place.now)) }
-    {
-        match place {
-            Expr::Name(x) => Ok(Some(Target::Variable(self.variable_of(scope, x.as_slice())?))),
-            Expr::Element(x, list) => self.element_target(scope, x, list),
-            _ => Ok(None),
-        }
-    }
-
-    /// The element of an array at the only expression of a list, if that is an operand.
-    fn element_target(
-        &mut self,
-        scope: &Scope,
-        x: &Bytes,
-        list: &[Expr],
-    ) -> Result<Option<Target>, AllocError>
-        ensures { IfOk result (λ target. FindsTarget scope.now self.old self.new target (Element x.now (exprs_of list.now))) }
-    {
-        let Some(key) = only(list) else {
-            return Ok(None);
-        };
-        let Some(operand) = self.operand_of(scope, key)? else {
-            return Ok(None);
-        };
-        let array = scope.array_of(x.as_slice())?;
-        Ok(Some(Target::Element(array, operand)))
-    }
-
     /// The operands that the parts of a concatenation behind its first are, if each is one.
     fn operands_behind(
         &mut self,

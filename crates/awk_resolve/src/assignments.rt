@@ -63,6 +63,9 @@ impl Builder {
         requires { Stands next self.old }
         ensures { IfOk result (λ place'. Builds scope.now self.old self.new place' (Evaluate (PostIncrement o (expr_of place.now)) next)) }
     {
+        if let Some(target) = self.target_of(scope, place)? {
+            return self.push_value(ValueNode::PostIncrementAt(o, target), next);
+        }
         let target = self.place_of(scope, place)?;
         let increment = self.push_value(ValueNode::PostIncrement(o, target), next)?;
         self.lower_operand(scope, place, increment)

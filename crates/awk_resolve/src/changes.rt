@@ -27,7 +27,7 @@ fn assigned_by_one(o: IncrementOperator) -> AssignmentOperator
 }
 
 impl Builder {
-    /// An assignment; that of an operand to a variable is one node.
+    /// An assignment; that of an operand to a target is one node.
     fn lower_update(
         &mut self,
         scope: &Scope,
@@ -42,10 +42,10 @@ impl Builder {
         let Some(operand) = self.operand_of(scope, right)? else {
             return self.lower_assignment(scope, o, place, right, exits);
         };
-        let Some(variable) = self.name_of(scope, place)? else {
+        let Some(target) = self.target_of(scope, place)? else {
             return self.lower_assignment(scope, o, place, right, exits);
         };
-        let update = self.push(Node::Update(o, variable, operand, exits.next))?;
+        let update = self.push(Node::Update(o, target, operand, exits.next))?;
         Ok(Some(update))
     }
 
@@ -101,9 +101,9 @@ impl Builder {
         requires { ExitsStand exits self.old }
         ensures { IfOk result (λ place'. LowersChange scope.now self.old self.new place' (PreIncrement o (expr_of place.now)) exits) }
     {
-        if let Some(variable) = self.name_of(scope, place)? {
+        if let Some(target) = self.target_of(scope, place)? {
             let one = Operand::Constant(Value::Number(1));
-            let update = self.push(Node::Update(assigned_by_one(o), variable, one, exits.next))?;
+            let update = self.push(Node::Update(assigned_by_one(o), target, one, exits.next))?;
             return Ok(Some(update));
         }
         let target = self.place_of(scope, place)?;
@@ -125,8 +125,8 @@ impl Builder {
         requires { ExitsStand exits self.old }
         ensures { IfOk result (λ place'. LowersChange scope.now self.old self.new place' (PostIncrement o (expr_of place.now)) exits) }
     {
-        if let Some(variable) = self.name_of(scope, place)? {
-            let increment = self.push(Node::Increment(o, variable, exits.next))?;
+        if let Some(target) = self.target_of(scope, place)? {
+            let increment = self.push(Node::Increment(o, target, exits.next))?;
             return Ok(Some(increment));
         }
         let target = self.place_of(scope, place)?;

@@ -12,7 +12,7 @@ ghost use Rattle.awk_resolve.specs.support.Parts.{is_concatenation, parts_of};
 ghost use Rattle.awk_resolve.specs.support.Scopes.{Builds};
 
 use crate::builder::{Builder, one_more};
-use crate::node::{Node, Operand, ValueNode};
+use crate::node::{Key, Node, Operand, ValueNode};
 use crate::scope::Scope;
 use awk_grammar::tree::{BinaryOperator, Expr, UnaryOperator};
 use awk_lex::token::Operator;
@@ -177,8 +177,11 @@ impl Builder {
         requires { Stands next self.old }
         ensures { IfOk result (λ place. Builds scope.now self.old self.new place (Evaluate (Element array.now (exprs_of list.now)) next)) }
     {
-        let array = scope.array_of(array.as_slice())?;
-        let read = self.push_value(ValueNode::ReadElement(array), next)?;
+        let number = scope.array_of(array.as_slice())?;
+        if let Some(key) = self.key_of(scope, list)? {
+            return self.push_value(ValueNode::ReadElement(number, Some(key)), next);
+        }
+        let read = self.push_value(ValueNode::ReadElement(number, None), next)?;
         self.lower_key(scope, list, read)
     }
 
@@ -208,8 +211,12 @@ impl Builder {
         requires { Stands next self.old }
         ensures { IfOk result (λ place. Builds scope.now self.old self.new place (Evaluate (Membership (expr_of e.now) array.now) next)) }
     {
-        let array = scope.array_of(array.as_slice())?;
-        let contains = self.push_value(ValueNode::Contains(array), next)?;
+        let number = scope.array_of(array.as_slice())?;
+        if let Some(key) = self.operand_of(scope, e)? {
+            let contains = ValueNode::Contains(number, Some(Key::At(key)));
+            return self.push_value(contains, next);
+        }
+        let contains = self.push_value(ValueNode::Contains(number, None), next)?;
         self.lower(scope, e, contains)
     }
 
@@ -226,7 +233,7 @@ impl Builder {
         ensures { IfOk result (λ place. Builds scope.now self.old self.new place (Evaluate (ListMembership (exprs_of list.now) array.now) next)) }
     {
         let array = scope.array_of(array.as_slice())?;
-        let contains = self.push_value(ValueNode::Contains(array), next)?;
+        let contains = self.push_value(ValueNode::Contains(array, None), next)?;
         self.lower_key(scope, list, contains)
     }
 

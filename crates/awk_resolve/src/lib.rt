@@ -25,6 +25,7 @@ mod readings;
 pub mod scope;
 mod simple_statements;
 mod statements;
+mod targets;
 
 pub use plan::{Function, Plan};
 pub use program::resolve;

@@ -39,12 +39,19 @@ pub enum Operand {
     FieldAt(Variable),
 }
 
+/// The key of an element, read where it stands.
+#[derive(Drop)]
+pub enum Key {
+    At(Operand),
+    /// The texts of operands, one behind the other.
+    Joined(Vec<Operand>),
+}
+
 /// A place that needs nothing from the stack.
 #[derive(Drop)]
 pub enum Target {
     Variable(Variable),
-    /// The element at an operand.
-    Element(Array, Operand),
+    Element(Array, Key),
 }
 
 /// What takes values off the stack and puts one on it. The operand that was evaluated last is the topmost.
@@ -65,8 +72,10 @@ pub enum ValueNode {
     MatchesEre(Operator, u32),
     Change(UnaryOperator),
     ReadField,
-    ReadElement(Array),
-    Contains(Array),
+    /// The element at a key that is read where it stands, or at the topmost value.
+    ReadElement(Array, Option<Key>),
+    /// Whether there is an element at such a key.
+    Contains(Array, Option<Key>),
     /// Several subscripts as one text.
     Key(u32),
     /// The number of a field that is a place.
@@ -76,6 +85,8 @@ pub enum ValueNode {
     Append(Variable),
     PreIncrement(IncrementOperator, Place),
     PostIncrement(IncrementOperator, Place),
+    /// The number that a target had, which is raised or lowered by 1.
+    PostIncrementAt(IncrementOperator, Target),
     /// The value of a place, whose operand stays on the stack.
     Load(Place),
     RecordLength,
@@ -137,10 +148,10 @@ pub enum Node {
     Assign(AssignmentOperator, Place, u32),
     /// Raises or lowers the number of a place by 1, and takes the operand of the place off.
     Raise(IncrementOperator, Place, u32),
-    /// Spends a step, and assigns an operand to a variable.
-    Update(AssignmentOperator, Variable, Operand, u32),
-    /// Spends a step, and raises or lowers a variable's number by 1.
-    Increment(IncrementOperator, Variable, u32),
+    /// Spends a step, and assigns an operand to a target.
+    Update(AssignmentOperator, Target, Operand, u32),
+    /// Spends a step, and raises or lowers a target's number by 1.
+    Increment(IncrementOperator, Target, u32),
     /// Assigns a variable its text with those of so many values behind it, and takes these off.
     AppendTo(Variable, u32, u32),
     /// Spends a step, and assigns a target its text with those of operands behind it.

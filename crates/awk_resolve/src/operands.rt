@@ -3,13 +3,12 @@
 ghost use Rattle.std.specs.Prelude.{IfOk, Some};
 ghost use Rattle.awk_grammar.specs.Tree.{Name, Field};
 ghost use Rattle.awk_grammar.specs.View.{expr_of, exprs_of};
-ghost use Rattle.awk_resolve.specs.support.Scopes.{FindsOperand, FindsOperands, FindsName};
+ghost use Rattle.awk_resolve.specs.support.Scopes.{FindsOperand, FindsOperands};
 
 use crate::builder::Builder;
 use crate::node::Operand;
 use crate::scope::Scope;
 use awk_grammar::tree::Expr;
-use awk_storage::Variable;
 use awk_value::{Bytes, Value};
 use std::alloc::AllocError;
 
@@ -82,23 +81,5 @@ impl Builder {
             operands.push(operand)?;
         }
         Ok(Some(operands))
-    }
-
-    /// The variable that an expression is, if it is one.
-    ///
-    /// # Errors
-    ///
-    /// Where memory is refused, or numbers run out.
-    pub(crate) fn name_of(
-        &mut self,
-        scope: &Scope,
-        e: &Expr,
-    ) -> Result<Option<Variable>, AllocError>
-        ensures { IfOk result (λ variable. FindsName scope.now self.old self.new variable (expr_of e.now)) }
-    {
-        match e {
-            Expr::Name(x) => Ok(Some(self.variable_of(scope, x.as_slice())?)),
-            _ => Ok(None),
-        }
     }
 }

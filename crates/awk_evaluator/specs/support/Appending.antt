@@ -1,28 +1,23 @@
 -- Operands that are appended to the text of a target, and those that are at hand as one text.
-use Rattle.std.specs.Prelude.{◌≡◌, ℕ, List, ◌++◌, map, None, Result, Ok, OnOk}
+use Rattle.std.specs.Prelude.{◌≡◌, ℕ, List, ◌++◌, map, None, Result, Ok}
 use Rattle.std.specs.List.{concat}
 use Rattle.awk_value.specs.declared.value.Value.{Value}
 use Rattle.awk_value.specs.declared.value.Value.TheVariants as value
 use Rattle.awk_value.specs.Values.{str_of}
 use Rattle.awk_semantics.specs.declared.halt.Halt.{Halt}
-use Rattle.awk_semantics.specs.State.{Run}
 use Rattle.awk_storage.specs.declared.position.Array.{Array}
 use Rattle.awk_storage.specs.declared.position.Place.{Place}
 use Rattle.awk_storage.specs.declared.position.Place.TheVariants as place
 use Rattle.awk_storage.specs.Positions.{assign_by_at}
+use Rattle.awk_resolve.specs.declared.node.Key.{Key}
 use Rattle.awk_resolve.specs.declared.node.Operand.{Operand}
 use Rattle.awk_resolve.specs.declared.node.Target.{Target}
 use Rattle.awk_resolve.specs.Nodes.{operand_values, append_operands_at, append_operands, append_by_step}
 use Rattle.awk_runtime.specs.support.Appends.{AppendsAt as AppendsIn}
 use Rattle.awk_runtime.specs.Simulation.{Changes}
 use Rattle.awk_evaluator.specs.declared.machine.Machine.{Machine}
-use Rattle.awk_evaluator.specs.support.Quick.{IsAtHand}
-
--- what takes no value off the stack, and leaves none on it unless it ends
-pub record Leaves (run : Run Value) (m : Machine) (r : Result Value Halt) (m' : Machine) : Type 0 where
-  pub operands : OnOk r (m'.operands ≡ m.operands)
-  pub calls : OnOk r (m'.calls ≡ m.calls)
-  pub changes : Changes run m.runtime m'.runtime r
+use Rattle.awk_evaluator.specs.support.Quick.{IsKeyAtHand}
+use Rattle.awk_evaluator.specs.support.Reading.{Leaves}
 
 -- a target gets its text with those of operands behind it, and where a step is spent before
 abbrev pub AppendsOperands : Target → List Operand → Machine → Result Value Halt → Machine → Type 0
@@ -39,10 +34,10 @@ AppendsAt p key list m r m' = Leaves (append_operands_at m.runtime.names.scalars
 abbrev pub AppendsBehind : Place → (operand old behind : Value) → Machine → Result Value Halt → Machine → Type 0
 AppendsBehind p key old behind m r m' = Leaves (assign_by_at m.runtime.names.scalars None p key (value.Text (str_of old ++ str_of behind))) m r m'
 
--- the element at an operand gets its text with these bytes behind it
-pub record AppendsBytes (a : Array) (operand : Operand) (text : List ℕ) (m m' : Machine) : Type 0 where
+-- the element at a key gets its text with these bytes behind it
+pub record AppendsBytes (a : Array) (k : Key) (text : List ℕ) (m m' : Machine) : Type 0 where
   pub key : Value
-  pub at_hand : IsAtHand operand key m
+  pub at_hand : IsKeyAtHand k key m
   pub operands : m'.operands ≡ m.operands
   pub calls : m'.calls ≡ m.calls
   pub appends : AppendsIn (place.Element a) key text m.runtime m'.runtime

@@ -3,13 +3,15 @@ use Rattle.std.specs.Prelude.{◌≡◌, ℕ, ℤ, List, [], ◌∷◌, ◌++◌
 use Rattle.std.specs.Global.{Vec}
 use Rattle.awk_value.specs.declared.value.Value.{Value}
 use Rattle.awk_value.specs.declared.value.Value.TheVariants as value
-use Rattle.awk_value.specs.Values.{str_of}
+use Rattle.awk_value.specs.Values.{num_of, str_of}
 use Rattle.awk_lex.specs.declared.token.BuiltIn.{BuiltIn}
+use Rattle.awk_lex.specs.declared.token.Operator.{Operator}
 use Rattle.awk_semantics.specs.declared.halt.Halt.{Halt}
+use Rattle.awk_semantics.specs.Operators.{applied}
 use Rattle.awk_semantics.specs.BuiltIns.{applied_all}
 use Rattle.awk_resolve.specs.declared.node.Operand.{Operand}
 use Rattle.awk_resolve.specs.Nodes.{operand_values, taken}
-use Rattle.awk_runtime.specs.Simulation.{Changes}
+use Rattle.awk_runtime.specs.Simulation.{Changes, SameState}
 use Rattle.awk_evaluator.specs.declared.function_values.Positions.{Positions}
 use Rattle.awk_evaluator.specs.declared.machine.Machine.{Machine}
 use Rattle.awk_evaluator.specs.support.Quick.{IsAtHand}
@@ -23,6 +25,22 @@ pub record HasText (a : Operand) (holds : List ℕ → Type 0) (m : Machine) : T
   pub value : Value
   pub at : IsAtHand a value m
   pub text : holds (str_of value)
+
+-- an operand is at hand, and this is its number
+pub record HasNumber (a : Operand) (n : ℤ) (m : Machine) : Type 0 where
+  pub value : Value
+  pub at : IsAtHand a value m
+  pub number : num_of value ≡ Ok n
+
+-- an operator makes of two values what it makes of their numbers
+abbrev pub IsOfNumbers : Operator → Type 0
+IsOfNumbers o = (x y : Value) (m n : ℤ) → num_of x ≡ Ok m → num_of y ≡ Ok n → applied o x y ≡ applied o (value.Number m) (value.Number n)
+
+-- nothing is changed that the definitions know
+pub record StaysAlike (m m' : Machine) : Type 0 where
+  pub operands : m'.operands ≡ m.operands
+  pub calls : m'.calls ≡ m.calls
+  pub runtime : SameState m.runtime m'.runtime
 
 -- positions, as the values that tell them
 abbrev pub count_values : Option ℤ → List Value

@@ -31,6 +31,8 @@ use Rattle.awk_storage.specs.definitions.Positions.{number_at, read_element_of, 
 use Rattle.awk_storage.specs.definitions.Forms.{contains_at, delete_at, clear_at, count_elements_at, keys_of_array, match_in, split_with, substitute_at, main_getline_at, named_getline_at}
 use Rattle.awk_resolve.specs.declared.node.Operand.{Operand}
 use Rattle.awk_resolve.specs.declared.node.Operand.TheVariants as operand
+use Rattle.awk_resolve.specs.declared.node.Key.{Key}
+use Rattle.awk_resolve.specs.declared.node.Key.TheVariants as key
 use Rattle.awk_resolve.specs.declared.node.Target.{Target}
 use Rattle.awk_resolve.specs.declared.node.Target.TheVariants as target
 use Rattle.awk_resolve.specs.declared.node.Source.{Source}
@@ -111,6 +113,11 @@ module _ (names : List (List ℕ)) where
   abbrev pub operated_on : BinaryOperator → (left right : Operand) → Run Value
   operated_on o a b = operand_value a >>= λ x. operated_with o x b
 
+  -- the key of an element: an operand, or the texts of several, one behind the other
+  abbrev pub key_value : Key → Run Value
+  key_value (key.At a) = operand_value a
+  key_value (key.Joined list) = operand_values list.items >>= λ ws. ret (value.Text (concat (map str_of ws)))
+
   -- a variable gets a value
   abbrev pub assign_variable : AssignmentOperator → Variable → Value → Run Value
   assign_variable o x w = assign_by_at names (operator_of o) (place.Variable x) value.Nothing w
@@ -121,11 +128,11 @@ module _ (names : List (List ℕ)) where
 
   -- a place, with its operand, gets its text with those of operands behind it
   abbrev pub append_operands_at : Place → (operand : Value) → List Operand → Run Value
-  append_operands_at p key list = read_at names p key >>= λ old. operand_values list >>= λ ws. assign_by_at names None p key (value.Text (str_of old ++ concat (map str_of ws)))
+  append_operands_at p w list = read_at names p w >>= λ old. operand_values list >>= λ ws. assign_by_at names None p w (value.Text (str_of old ++ concat (map str_of ws)))
 
   abbrev pub append_operands : Target → List Operand → Run Value
   append_operands (target.Variable x) list = append_operands_at (place.Variable x) value.Nothing list
-  append_operands (target.Element a key) list = operand_value key >>= λ w. append_operands_at (place.Element a) w list
+  append_operands (target.Element a k) list = key_value k >>= λ w. append_operands_at (place.Element a) w list
 
   -- the same, where a step is spent
   abbrev pub append_by_step : Target → List Operand → Run Value
@@ -135,12 +142,22 @@ module _ (names : List (List ℕ)) where
   abbrev pub print_operands : List Operand → Run (Unit {0})
   print_operands list = operand_values list >>= λ ws. print_line 0 ws
 
-  -- a step is spent, and a variable gets an operand, or its number and 1, or less 1
-  abbrev pub update : AssignmentOperator → Variable → Operand → Run Value
-  update o x a = spend >>= λ _. operand_value a >>= λ w. assign_variable o x w
+  -- a target gets an operand; an element's key is read before it
+  abbrev pub assign_target : AssignmentOperator → Target → Operand → Run Value
+  assign_target o (target.Variable x) a = operand_value a >>= λ w. assign_variable o x w
+  assign_target o (target.Element e k) a = key_value k >>= λ x. operand_value a >>= λ w. assign_by_at names (operator_of o) (place.Element e) x w
 
-  abbrev pub increment : IncrementOperator → Variable → Run Value
-  increment o x = spend >>= λ _. post_increment_at names o (place.Variable x) value.Nothing
+  -- a target gets its number and 1, or less 1
+  abbrev pub raise_target : IncrementOperator → Target → Run Value
+  raise_target o (target.Variable x) = post_increment_at names o (place.Variable x) value.Nothing
+  raise_target o (target.Element e k) = key_value k >>= λ x. post_increment_at names o (place.Element e) x
+
+  -- the same, where a step is spent
+  abbrev pub update : AssignmentOperator → Target → Operand → Run Value
+  update o t a = spend >>= λ _. assign_target o t a
+
+  abbrev pub increment : IncrementOperator → Target → Run Value
+  increment o t = spend >>= λ _. raise_target o t
 
 -- calls: values are given in their order, and arrays by their numbers
 
@@ -196,14 +213,17 @@ module _ (tables : Tables) where
   value_of functions (v.Change o) vs = lift (changed o (first vs))
   value_of functions (v.ConcatenateAll k) vs = lift (Ok (value.Text (concat (map str_of (taken k vs)))))
   value_of functions v.ReadField vs = number_of (first vs) >>= λ k. read_field k
-  value_of functions (v.ReadElement a) vs = read_element_of a (str_of (first vs))
-  value_of functions (v.Contains a) vs = contains_at a (str_of (first vs)) >>= λ b. ret (truth_value b)
+  value_of functions (v.ReadElement a None) vs = read_element_of a (str_of (first vs))
+  value_of functions (v.ReadElement a (Some k)) vs = key_value tables.names k >>= λ w. read_element_of a (str_of w)
+  value_of functions (v.Contains a None) vs = contains_at a (str_of (first vs)) >>= λ b. ret (truth_value b)
+  value_of functions (v.Contains a (Some k)) vs = key_value tables.names k >>= λ w. contains_at a (str_of w) >>= λ b. ret (truth_value b)
   value_of functions (v.Key k) vs = joined_key (taken k vs) >>= λ key. ret (value.Text key)
   value_of functions v.FieldNumber vs = number_of (first vs) >>= λ k. ret (value.Number k)
   value_of functions (v.Assign o p) vs = assign_by_at tables.names (operator_of o) p (second vs) (first vs)
   value_of functions (v.Append x) vs = lift (operated Concatenate (second vs) (first vs)) >>= λ w. assign_by_at tables.names None (place.Variable x) value.Nothing w
   value_of functions (v.PreIncrement o p) vs = assign_by_at tables.names (Some (by_one o)) p (first vs) one
   value_of functions (v.PostIncrement o p) vs = post_increment_at tables.names o p (first vs)
+  value_of functions (v.PostIncrementAt o t) vs = raise_target tables.names o t
   value_of functions (v.Load p) vs = read_at tables.names p (first vs)
   value_of functions v.RecordLength vs = record_length
   value_of functions (v.CountElements a) vs = count_elements_at a
@@ -239,6 +259,10 @@ abbrev pub split_operands : SplitBy → ℕ
 split_operands by.Value = 1
 split_operands b = 0
 
+abbrev pub key_operands : Option Key → ℕ
+key_operands None = 1
+key_operands (Some k) = 0
+
 -- how many values a node takes off the stack
 abbrev pub popped : ValueNode → ℕ
 popped (v.Put a) = 0
@@ -250,14 +274,15 @@ popped (v.MatchesEre o i) = 1
 popped (v.Change o) = 1
 popped (v.ConcatenateAll k) = k
 popped v.ReadField = 1
-popped (v.ReadElement a) = 1
-popped (v.Contains a) = 1
+popped (v.ReadElement a k) = key_operands k
+popped (v.Contains a k) = key_operands k
 popped (v.Key k) = k
 popped v.FieldNumber = 1
 popped (v.Assign o p) = suc (operands p)
 popped (v.Append x) = 2
 popped (v.PreIncrement o p) = operands p
 popped (v.PostIncrement o p) = operands p
+popped (v.PostIncrementAt o t) = 0
 popped (v.Load p) = 0
 popped v.RecordLength = 0
 popped (v.CountElements a) = 0
@@ -328,8 +353,8 @@ module _ (tables : Tables) (functions : Functions) (again : ℕ → Cont) where
   made at (n.TestInside i here other) = λ vs. is_inside i >>= λ inside. choose inside (at here vs) (at other vs)
   made at (n.Assign o p k) = λ vs. value_of tables functions (v.Assign o p) vs >>= λ _. at k (drop (popped (v.Assign o p)) vs)
   made at (n.Raise o p k) = λ vs. value_of tables functions (v.PostIncrement o p) vs >>= λ _. at k (drop (popped (v.PostIncrement o p)) vs)
-  made at (n.Update o x a k) = λ vs. update tables.names o x a >>= λ _. at k vs
-  made at (n.Increment o x k) = λ vs. increment tables.names o x >>= λ _. at k vs
+  made at (n.Update o t a k) = λ vs. update tables.names o t a >>= λ _. at k vs
+  made at (n.Increment o t k) = λ vs. increment tables.names o t >>= λ _. at k vs
   made at (n.AppendTo x count k) = λ vs. append_to tables.names x (taken count vs) >>= λ _. at k (drop count vs)
   made at (n.AppendOperands t list k) = λ vs. append_by_step tables.names t list.items >>= λ _. at k vs
   made at (n.Print list k) = λ vs. print_operands tables.names list.items >>= λ _. at k vs
@@ -367,8 +392,8 @@ AreBelow at (n.Match a i here other) = (here < at) × (other < at)
 AreBelow at (n.TestInside i here other) = (here < at) × (other < at)
 AreBelow at (n.Assign o p k) = k < at
 AreBelow at (n.Raise o p k) = k < at
-AreBelow at (n.Update o x a k) = k < at
-AreBelow at (n.Increment o x k) = k < at
+AreBelow at (n.Update o t a k) = k < at
+AreBelow at (n.Increment o t k) = k < at
 AreBelow at (n.AppendTo x count k) = k < at
 AreBelow at (n.AppendOperands t list k) = k < at
 AreBelow at (n.Print list k) = k < at

@@ -4,7 +4,7 @@ use Rattle.std.specs.Global.{Vec}
 use Rattle.awk_value.specs.declared.value.Value.{Value}
 use Rattle.awk_value.specs.declared.value.Value.TheVariants as value
 use Rattle.awk_value.specs.Values.{truth_of}
-use Rattle.awk_grammar.specs.Tree.{Expr, Ere, Name, Element, Field, Exprs, Nil, Cons, OptionalExpr, NoExpr, AnExpr, Statement, Statements, OptionalSimple}
+use Rattle.awk_grammar.specs.Tree.{Expr, Ere, Element, Field, Exprs, Nil, Cons, OptionalExpr, NoExpr, AnExpr, Statement, Statements, OptionalSimple}
 use Rattle.awk_kinds.specs.Names.{IsFront, with_name, Numbers}
 use Rattle.awk_kinds.specs.definitions.Kinds.{FormalParameter}
 use Rattle.awk_kinds.specs.definitions.Signatures.{Signature, ProgramKinds}
@@ -120,12 +120,6 @@ pub record IsVariableOf (kinds : ProgramKinds) (parameters : List FormalParamete
 pub record FindsVariable (kinds : ProgramKinds) (parameters : List FormalParameter) (old new : Builder) (v : Variable) (x : List ℕ) : Type 0 where
   pub extends : Extends old new
   pub is : IsVariableOf kinds parameters new v x
-
--- the variable that an expression is
-pub record FindsNamed (kinds : ProgramKinds) (parameters : List FormalParameter) (old new : Builder) (v : Variable) (e : Expr) : Type 0 where
-  pub name : List ℕ
-  pub is : e ≡ Name name
-  pub finds : FindsVariable kinds parameters old new v name
 
 -- an operand that is read where it stands is what an expression is, now and later
 pub record IsOperandOf (kinds : ProgramKinds) (parameters : List FormalParameter) (b : Builder) (a : Operand) (e : Expr) : Type 0 where

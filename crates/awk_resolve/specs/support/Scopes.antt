@@ -11,10 +11,9 @@ use Rattle.awk_grammar.specs.Tree.{Expr, Exprs, OptionalExpr, PrintList, Standar
 use Rattle.awk_semantics.specs.definitions.BuiltIns.{bare_name}
 use Rattle.awk_storage.specs.declared.position.Array.{Array}
 use Rattle.awk_storage.specs.declared.position.Place.{Place}
-use Rattle.awk_storage.specs.declared.position.Variable.{Variable}
 use Rattle.awk_resolve.specs.declared.builder.Exits.{Exits}
 use Rattle.awk_resolve.specs.declared.node.Operand.{Operand}
-use Rattle.awk_resolve.specs.support.Builds.{NamesArray, Part, Evaluate, Execute, Extends, Builds as BuildsWith, FindsPlace as FindsPlaceWith, FindsOptionalPlace as FindsOptionalPlaceWith, FindsNamed, FindsAnOperand, FindsEachOperand}
+use Rattle.awk_resolve.specs.support.Builds.{NamesArray, Part, Evaluate, Execute, Extends, Builds as BuildsWith, FindsPlace as FindsPlaceWith, FindsOptionalPlace as FindsOptionalPlaceWith, FindsAnOperand, FindsEachOperand}
 
 abbrev pub given_parameters : Option (Bor (List FormalParameter)) → List FormalParameter
 given_parameters None = []
@@ -42,11 +41,6 @@ MeasuredBy kinds parameters array None = array ≡ None
 
 abbrev pub Measures : Scope → Option Array → Expr → Type 0
 Measures scope array e = MeasuredBy scope.kinds.now (parameters_of scope) array (bare_name e)
-
--- the variable that an expression is there, if it is one
-abbrev pub FindsName : Scope → (old new : Builder) → Option Variable → Expr → Type 0
-FindsName scope old new None e = new ≡ old
-FindsName scope old new (Some v) e = FindsNamed scope.kinds.now (parameters_of scope) old new v e
 
 -- the operand that an expression is there, if it is one
 abbrev pub FindsOperand : Scope → (old new : Builder) → Option Operand → Expr → Type 0

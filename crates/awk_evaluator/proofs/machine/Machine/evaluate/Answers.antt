@@ -1,4 +1,5 @@
 use Rattle.awk_evaluator.proofs.Computing.{computed_ready, computed_evaluates}
+use Rattle.awk_evaluator.proofs.Keys.{raises_computes}
 use Rattle.awk_evaluator.proofs.machine.Machine.evaluate.Goals as goal
 
 pub returns-in-Put-clause-ready : goal.returns-in-Put-clause-ready
@@ -72,6 +73,9 @@ returns-in-PostIncrement-clause-ready g c = computed_ready c.post_increment.ensu
 
 pub returns-in-PostIncrement-clause-evaluates : goal.returns-in-PostIncrement-clause-evaluates
 returns-in-PostIncrement-clause-evaluates g c = rw c.in-PostIncrement.is (computed_evaluates c.post_increment.ensures)
+
+pub returns-in-PostIncrementAt-clause-evaluates : goal.returns-in-PostIncrementAt-clause-evaluates
+returns-in-PostIncrementAt-clause-evaluates g c = rw c.in-PostIncrementAt.is (computed_evaluates (raises_computes c.in-PostIncrementAt.operator c.in-PostIncrementAt.target _ c.post_increment_at.ensures))
 
 pub returns-in-Matches-clause-ready : goal.returns-in-Matches-clause-ready
 returns-in-Matches-clause-ready g c = computed_ready c.matches.ensures c.requires.ready

@@ -4,7 +4,7 @@ use Rattle.awk_runtime.proofs.Composition.{ready_same, ready_behind}
 use Rattle.awk_evaluator.proofs.Changing.{ready_compared, inside_on}
 use Rattle.awk_evaluator.proofs.Moving.{returns_value, returns_nothing}
 use Rattle.awk_evaluator.proofs.QuickMoves.{truth_on}
-use Rattle.awk_evaluator.proofs.NodeMoves.{effect_moves, update_moves, increment_moves, assign_moves, raise_moves, append_operands_moves, match_moves, compare_moves, compare_with_moves, again_moves, ready_done, ready_run, ready_left, ready_given}
+use Rattle.awk_evaluator.proofs.NodeMoves.{effect_moves, update_moves, increment_moves, assign_moves, raise_moves, append_operands_moves, match_moves, compare_moves, compare_with_moves, again_moves, ready_done, ready_left, ready_given}
 use Rattle.awk_evaluator.proofs.machine.Machine.make_move.Goals as goal
 
 pub put_value-requires-clause-calls : goal.put_value-requires-clause-calls
@@ -38,10 +38,10 @@ pub returns-in-Raise : goal.returns-in-Raise
 returns-in-Raise g c = rw (c.onward-in-Raise.ensures, c.in-Raise.is) (record { ready = ready_done c.raise.result c.raise.ensures c.requires.ready; moves = raise_moves c.raise.result c.raise.ensures })
 
 pub returns-in-Update : goal.returns-in-Update
-returns-in-Update g c = rw (c.onward-in-Update.ensures, c.in-Update.is) (record { ready = ready_run c.update.result c.update.ensures c.requires.ready; moves = update_moves c.update.result c.update.ensures })
+returns-in-Update g c = rw (c.onward-in-Update.ensures, c.in-Update.is) (record { ready = ready_left c.update.result c.update.ensures c.requires.ready; moves = update_moves c.update.result c.update.ensures })
 
 pub returns-in-Increment : goal.returns-in-Increment
-returns-in-Increment g c = rw (c.onward-in-Increment.ensures, c.in-Increment.is) (record { ready = ready_run c.increment.result c.increment.ensures c.requires.ready; moves = increment_moves c.increment.result c.increment.ensures })
+returns-in-Increment g c = rw (c.onward-in-Increment.ensures, c.in-Increment.is) (record { ready = ready_left c.increment.result c.increment.ensures c.requires.ready; moves = increment_moves c.increment.result c.increment.ensures })
 
 pub returns-in-AppendOperands : goal.returns-in-AppendOperands
 returns-in-AppendOperands g c = rw (c.onward-in-AppendOperands.ensures, c.in-AppendOperands.is) (record { ready = ready_left c.append_operands.result c.append_operands.ensures c.requires.ready; moves = append_operands_moves c.append_operands.result (rw c.deref.ensures.value at c.append_operands.ensures) })

@@ -1,19 +1,16 @@
-use Rattle.std.proofs.Common.{refl}
-use Rattle.awk_evaluator.proofs.Parts.{not_updated, updates_behind}
+use Rattle.awk_resolve.specs.declared.node.Target.TheVariants as target
+use Rattle.awk_evaluator.proofs.Parts.{not_updated, updates_behind, variable_updated}
 use Rattle.awk_evaluator.proofs.machine.Machine.update.Goals as goal
 
 pub returns-then-not-spend : goal.returns-then-not-spend
-returns-then-not-spend c =
-    let e = c.if-not-spend.ensures {u = tt} in
-    not_updated e.operands e.calls e.spends c.args.operator c.args.variable.now c.args.operand.now
+returns-then-not-spend c = not_updated (c.if-not-spend.ensures {u = tt}).spends c.args.operator c.args.target.now c.args.operand.now
 
-pub returns-then-assign_number_at : goal.returns-then-assign_number_at
-returns-then-assign_number_at c =
+pub returns-in-Variable : goal.returns-in-Variable
+returns-in-Variable c =
     let e = c.if-not-spend.ensures {u = tt} in
-    updates_behind e.spends e.operands e.calls c.args.operator c.args.variable.now c.args.operand.now _ ((c.if-assign_number_at.ensures {u = tt}).assigned refl)
+    rw c.in-Variable.is (updates_behind e.spends e.operands e.calls c.args.operator (target.Variable c.in-Variable.variable) c.args.operand.now _ (variable_updated c.args.operator c.in-Variable.variable c.args.operand.now _ c.update_variable.ensures))
 
-pub returns : goal.returns
-returns c =
+pub returns-in-Element : goal.returns-in-Element
+returns-in-Element c =
     let e = c.if-not-spend.ensures {u = tt} in
-    let kept = (c.if-assign_number_at.ensures {u = tt}).kept refl in
-    updates_behind e.spends e.operands e.calls c.args.operator c.args.variable.now c.args.operand.now _ (rw kept at c.assign_operand.ensures)
+    rw c.in-Element.is (updates_behind e.spends e.operands e.calls c.args.operator (target.Element c.in-Element.array c.in-Element.key) c.args.operand.now _ c.update_element.ensures)

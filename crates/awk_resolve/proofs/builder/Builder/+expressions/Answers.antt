@@ -20,6 +20,7 @@ use Rattle.awk_resolve.specs.support.Calls.{arrays_of, is_array_at, roles_from}
 use Rattle.awk_resolve.specs.support.Scopes.{Builds}
 use Rattle.awk_resolve.proofs.Building.{ok_map, same, still, behind, stands, arrays_same, extends}
 use Rattle.awk_resolve.proofs.ExpressionForms.{number_lowered, strict_lowered, string_lowered, ere_lowered, length_lowered, element_lowered, field_lowered, group_lowered, unary_lowered, membership_lowered, list_membership_lowered, assign_lowered, pre_increment_lowered, post_increment_lowered}
+use Rattle.awk_resolve.proofs.ElementForms.{element_read, operand_contained, target_post_incremented}
 use Rattle.awk_resolve.proofs.InPlaceForms.{nothing_before, operand_lowered, match_tested, strict, strictly_by, operated_with_lowered, operated_on_lowered, compared_with_lowered, compared_lowered}
 use Rattle.awk_resolve.proofs.AppendForms.{append_lowered, whole_left, behind_concatenation, behind_other}
 use Rattle.awk_resolve.proofs.PartForms.{part_lowered, whole_part_lowered, joined_lowered}
@@ -139,14 +140,24 @@ lower_getline-returns t c =
 pub lower_piped_getline-returns : goal.lower_piped_getline-returns
 lower_piped_getline-returns t c = ok_map _ (λ i q. piped_getline_lowered c.in_ok-target.target (optional_expr_of c.args.place.now) c.requires c.in_ok-target.ensures c.in_ok-read.ensures c.in_ok-operand.ensures q) c.lower.ensures
 
+pub lower_element-returns-in-Some : goal.lower_element-returns-in-Some
+lower_element-returns-in-Some t c = ok_map _ (λ i q. element_read c.requires (rw c.as_slice.ensures at c.in_ok-number.ensures) (rw c.in-Some.is at c.in_ok-key.ensures) q) c.push_value.ensures
+
 pub lower_element-returns : goal.lower_element-returns
-lower_element-returns t c = ok_map _ (λ i q. element_lowered c.requires (rw c.as_slice.ensures at c.in_ok-array.ensures) c.in_ok-read.ensures q) c.lower_key.ensures
+lower_element-returns t c =
+    let before = rw c.in_default.is at c.in_ok-key.ensures in
+    ok_map _ (λ i q. behind before (element_lowered (still before c.requires) (rw c.as_slice.ensures at c.in_ok-number.ensures) c.in_ok-read.ensures q)) c.lower_key.ensures
 
 pub lower_unary-returns : goal.lower_unary-returns
 lower_unary-returns t c = ok_map _ (λ i q. unary_lowered c.args.o c.requires c.in_ok-change.ensures q) c.lower.ensures
 
+pub lower_membership-returns-in-Some : goal.lower_membership-returns-in-Some
+lower_membership-returns-in-Some t c = ok_map _ (λ i q. operand_contained c.requires (rw c.as_slice.ensures at c.in_ok-number.ensures) (rw c.in-Some.is at c.in_ok-key.ensures) q) c.push_value.ensures
+
 pub lower_membership-returns : goal.lower_membership-returns
-lower_membership-returns t c = ok_map _ (λ i q. membership_lowered c.requires (rw c.as_slice.ensures at c.in_ok-array.ensures) c.in_ok-contains.ensures q) c.lower.ensures
+lower_membership-returns t c =
+    let none = rw c.in_default.is at c.in_ok-key.ensures in
+    ok_map _ (λ i q. membership_lowered c.requires (rw c.as_slice.ensures at c.in_ok-number.ensures) (nothing_before none c.in_ok-contains.ensures) q) c.lower.ensures
 
 pub lower_list_membership-returns : goal.lower_list_membership-returns
 lower_list_membership-returns t c = ok_map _ (λ i q. list_membership_lowered c.requires (rw c.as_slice.ensures at c.in_ok-array.ensures) c.in_ok-contains.ensures q) c.lower_key.ensures
@@ -167,8 +178,13 @@ lower_assign-returns t c = ok_map _ (λ i q. assign_lowered c.requires c.in_ok-t
 pub lower_pre_increment-returns : goal.lower_pre_increment-returns
 lower_pre_increment-returns t c = ok_map _ (λ i q. pre_increment_lowered c.requires c.in_ok-target.ensures c.args.o c.in_ok-increment.ensures q) c.lower_operand.ensures
 
+pub lower_post_increment-returns-in-Some : goal.lower_post_increment-returns-in-Some
+lower_post_increment-returns-in-Some t c = ok_map _ (λ i q. target_post_incremented c.requires c.args.o (rw c.in-Some.is at c.in_ok-target.ensures) q) c.push_value.ensures
+
 pub lower_post_increment-returns : goal.lower_post_increment-returns
-lower_post_increment-returns t c = ok_map _ (λ i q. post_increment_lowered c.requires c.in_ok-target.ensures c.args.o c.in_ok-increment.ensures q) c.lower_operand.ensures
+lower_post_increment-returns t c =
+    let before = rw c.in_default.is at c.in_ok-target.ensures in
+    ok_map _ (λ i q. behind before (post_increment_lowered (still before c.requires) c.in_ok-target-2.ensures c.args.o c.in_ok-increment.ensures q)) c.lower_operand.ensures
 
 pub lower_append-returns : goal.lower_append-returns
 lower_append-returns t c = ok_map _ (λ i q. append_lowered c.args.name.now (expr_of c.args.e.now) c.requires.stands (rw c.as_slice.ensures at c.in_ok-variable.ensures) c.requires.append c.in_ok-append.ensures c.in_ok-right.ensures q) c.push_name.ensures

@@ -4,7 +4,7 @@ use Rattle.awk_grammar.specs.Tree as tree
 use Rattle.awk_grammar.specs.View.{expr_of, exprs_of}
 use Rattle.awk_kinds.proofs.Rows.{row_is_list}
 use Rattle.awk_resolve.proofs.Building.{same}
-use Rattle.awk_resolve.proofs.Targets.{name_is_place, element_is_place, field_is_place}
+use Rattle.awk_resolve.proofs.Positions.{name_is_place, element_is_place, field_is_place}
 use Rattle.awk_resolve.proofs.builder.Builder.place_of.Goals as goal
 
 pub returns-in_ok-variable_of-in-Name : goal.returns-in_ok-variable_of-in-Name

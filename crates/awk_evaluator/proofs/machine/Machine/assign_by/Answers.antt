@@ -1,6 +1,6 @@
 use Rattle.std.proofs.Common.{refl}
 use Rattle.awk_evaluator.proofs.Parts.{part_done, computes_kept}
-use Rattle.awk_evaluator.proofs.machine.Machine.assign_value.Goals as goal
+use Rattle.awk_evaluator.proofs.machine.Machine.assign_by.Goals as goal
 
 pub returns-then-assign_as_number : goal.returns-then-assign_as_number
 returns-then-assign_as_number c = (c.if-assign_as_number.ensures {u = tt}).assigned refl

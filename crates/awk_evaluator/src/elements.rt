@@ -1,0 +1,345 @@
+// Elements at keys that are read where they stand: what is at hand is read, found and changed there, and all else by the general way.
+
+ghost use Rattle.std.specs.Prelude.{◌≡◌, [], Ok, Some as SomeOf, IfSome, true, false};
+ghost use Rattle.awk_resolve.specs.declared.node.ValueNode.TheVariants.{ReadElement, Contains, PostIncrementAt};
+ghost use Rattle.awk_resolve.specs.declared.node.Target.TheVariants.{Element as ElementTarget};
+ghost use Rattle.awk_evaluator.specs.Moves.{Computes, Done, came};
+ghost use Rattle.awk_evaluator.specs.Reading.{ReadsKey, ReadsJoined, AssignsElement, AssignsTarget, PutsAt, Raises};
+ghost use Rattle.awk_evaluator.specs.Quick.{IsKeyAtHand, IsAsGood, Puts};
+ghost use Rattle.awk_evaluator.specs.Elements.{IsJoinedAtHand};
+
+use crate::machine::Machine;
+use awk_functions::{operator_of, truth_value};
+use awk_lex::token::{AssignmentOperator, IncrementOperator};
+use awk_resolve::node::{Key, Operand, Target};
+use awk_semantics::Halt;
+use awk_storage::{Array, Place};
+use awk_value::{Bytes, Value};
+
+impl Machine {
+    /// The value that a key is, where it is at hand.
+    #[inline(always)]
+    pub(crate) fn key_at_hand(&mut self, key: &Key) -> Option<Value>
+        ensures some { IfSome result (λ value. IsKeyAtHand key.now value self.old) }
+        ensures same { self.new ≡ self.old }
+    {
+        match key {
+            Key::At(operand) => self.copy_at_hand(operand),
+            Key::Joined(parts) => self.joined_at_hand(parts),
+        }
+    }
+
+    /// The texts of operands that are at hand, one behind the other.
+    #[inline(never)]
+    fn joined_at_hand(&mut self, parts: &[Operand]) -> Option<Value>
+        ensures some { IfSome result (λ value. IsJoinedAtHand parts.now value self.old) }
+        ensures same { self.new ≡ self.old }
+    {
+        let mut text = self.lend_text();
+        let value = self.joined_in(&mut text, parts);
+        self.take_text_back(text);
+        value
+    }
+
+    /// The same, by an empty text in which they are joined.
+    #[inline(always)]
+    fn joined_in(&mut self, text: &mut Vec<u8>, parts: &[Operand]) -> Option<Value>
+        requires { text.old.items ≡ [] }
+        ensures some { IfSome result (λ value. IsJoinedAtHand parts.now value self.old) }
+        ensures same { self.new ≡ self.old }
+    {
+        if !self.join_at_hand(text, parts) {
+            return None;
+        }
+        match Bytes::from_slice(self.runtime.alloc, text) {
+            Ok(bytes) => Some(Value::Text(bytes)),
+            Err(_) => None,
+        }
+    }
+
+    /// The value of a key.
+    pub(crate) fn read_key(&mut self, key: &Key) -> Result<Value, Halt>
+        ensures { ReadsKey key.now self.old result self.new }
+    {
+        match key {
+            Key::At(operand) => self.read_operand(operand),
+            Key::Joined(parts) => self.read_joined(parts),
+        }
+    }
+
+    /// The texts of operands, one behind the other.
+    pub(crate) fn read_joined(&mut self, parts: &[Operand]) -> Result<Value, Halt>
+        ensures { ReadsJoined parts.now self.old result self.new }
+    {
+        self.put_operands(parts)?;
+        let values = self.operands.newest(parts.len());
+        let text = self.runtime.concatenate_all(values)?;
+        self.operands.drop(parts.len());
+        Ok(text)
+    }
+
+    /// Puts the element at a key on the stack.
+    #[inline(never)]
+    pub(crate) fn put_element_at(&mut self, array: Array, key: &Key) -> bool
+        ensures puts { result ≡ true → Puts (ReadElement array (SomeOf key.now)) self.old self.new }
+        ensures kept { result ≡ false → self.new ≡ self.old }
+    {
+        let Some(key) = self.key_at_hand(key) else {
+            return false;
+        };
+        let Some(value) = self.runtime.element_in(array, &key) else {
+            return false;
+        };
+        if let Value::Number(n) = value {
+            let n = *n;
+            return self.put(n);
+        }
+        self.operands.push_copy(value)
+    }
+
+    /// Puts whether there is an element at a key on the stack.
+    #[inline(never)]
+    pub(crate) fn put_contains_at(&mut self, array: Array, key: &Key) -> bool
+        ensures puts { result ≡ true → Puts (Contains array (SomeOf key.now)) self.old self.new }
+        ensures kept { result ≡ false → self.new ≡ self.old }
+    {
+        let Some(key) = self.key_at_hand(key) else {
+            return false;
+        };
+        let is_there = self.runtime.has_element(array, &key);
+        self.operands.push(truth_value(is_there)).is_ok()
+    }
+
+    /// Raises or lowers the number of the element at a key by 1, and puts the number that it had on the stack.
+    #[inline(never)]
+    pub(crate) fn put_raised_at(
+        &mut self,
+        operator: IncrementOperator,
+        array: Array,
+        key: &Key,
+    ) -> bool
+        ensures puts { result ≡ true → Puts (PostIncrementAt operator (ElementTarget array key.now)) self.old self.new }
+        ensures kept { result ≡ false → self.new ≡ self.old }
+    {
+        let Some(key) = self.key_at_hand(key) else {
+            return false;
+        };
+        let Ok(()) = self.operands.push(Value::Nothing) else {
+            return false;
+        };
+        let Some(n) = self.runtime.raise_element(operator, array, &key) else {
+            self.operands.pop();
+            return false;
+        };
+        self.operands.replace(Value::Number(n));
+        true
+    }
+
+    /// The element at a key, or at the one that an operand is.
+    #[inline(always)]
+    pub(crate) fn element(&mut self, array: Array, key: &Option<Key>) -> Result<Value, Halt>
+        ensures { Computes (ReadElement array key.now) self.old result self.new }
+    {
+        match key {
+            Some(key) => self.element_at(array, key),
+            None => self.element_on_top(array),
+        }
+    }
+
+    /// Whether there is an element at a key, or at the one that an operand is.
+    #[inline(always)]
+    pub(crate) fn contains(&mut self, array: Array, key: &Option<Key>) -> Result<Value, Halt>
+        ensures { Computes (Contains array key.now) self.old result self.new }
+    {
+        match key {
+            Some(key) => self.contains_at(array, key),
+            None => self.contains_on_top(array),
+        }
+    }
+
+    /// The element at a key.
+    #[inline(never)]
+    fn element_at(&mut self, array: Array, key: &Key) -> Result<Value, Halt>
+        ensures { Computes (ReadElement array (SomeOf key.now)) self.old result self.new }
+    {
+        let key = self.read_key(key)?;
+        self.runtime.read_element_of(array, &key)
+    }
+
+    /// Whether there is an element at a key.
+    fn contains_at(&mut self, array: Array, key: &Key) -> Result<Value, Halt>
+        ensures { Computes (Contains array (SomeOf key.now)) self.old result self.new }
+    {
+        let key = self.read_key(key)?;
+        let is_there = self.runtime.contains_at(array, &key)?;
+        Ok(truth_value(is_there))
+    }
+
+    /// Assigns an operand to the element at a key.
+    #[inline(never)]
+    pub(crate) fn update_element(
+        &mut self,
+        operator: AssignmentOperator,
+        array: Array,
+        key: &Key,
+        operand: &Operand,
+    ) -> bool
+        ensures { Done (λ r. AssignsTarget operator (ElementTarget array key.now) operand.now self.old r self.new) (came result self.new) }
+    {
+        match self.key_at_hand(key) {
+            Some(key) => self.update_at(operator, array, &key, operand),
+            None => self.update_behind(operator, array, key, operand),
+        }
+    }
+
+    /// The same of a key that isn't at hand.
+    #[inline(never)]
+    fn update_behind(
+        &mut self,
+        operator: AssignmentOperator,
+        array: Array,
+        key: &Key,
+        operand: &Operand,
+    ) -> bool
+        ensures { Done (λ r. AssignsTarget operator (ElementTarget array key.now) operand.now self.old r self.new) (came result self.new) }
+    {
+        match self.read_key(key) {
+            Ok(key) => self.update_at(operator, array, &key, operand),
+            Err(halt) => {
+                self.halt = halt;
+                false
+            }
+        }
+    }
+
+    /// Assigns an operand to the element at the text of a value.
+    #[inline(always)]
+    fn update_at(
+        &mut self,
+        operator: AssignmentOperator,
+        array: Array,
+        key: &Value,
+        operand: &Operand,
+    ) -> bool
+        ensures { Done (λ r. AssignsElement operator array key.now operand.now self.old r self.new) (came result self.new) }
+    {
+        if self.change_at_hand(operator, array, key, operand) {
+            return true;
+        }
+        self.assign_at(operator, array, key, operand)
+    }
+
+    /// Assigns the number of an operand that is at hand, where that changes where it stands.
+    #[inline(always)]
+    fn change_at_hand(
+        &mut self,
+        operator: AssignmentOperator,
+        array: Array,
+        key: &Value,
+        operand: &Operand,
+    ) -> bool
+        ensures changed { result ≡ true → Done (λ r. AssignsElement operator array key.now operand.now self.old r self.new) (Ok tt) }
+        ensures kept { result ≡ false → self.new ≡ self.old }
+    {
+        let Some(n) = self.number_to_assign(operator, operand) else {
+            return false;
+        };
+        self.runtime.change_element(operator, array, key, n)
+    }
+
+    /// The same of an operand of any kind.
+    #[inline(never)]
+    fn assign_at(
+        &mut self,
+        operator: AssignmentOperator,
+        array: Array,
+        key: &Value,
+        operand: &Operand,
+    ) -> bool
+        ensures { Done (λ r. AssignsElement operator array key.now operand.now self.old r self.new) (came result self.new) }
+    {
+        match self.read_operand(operand) {
+            Ok(value) => self.put_at(operator, array, key, value),
+            Err(halt) => {
+                self.halt = halt;
+                false
+            }
+        }
+    }
+
+    /// Gives the element at the text of a value another one, or what an operator makes of its own and that one.
+    fn put_at(
+        &mut self,
+        operator: AssignmentOperator,
+        array: Array,
+        key: &Value,
+        value: Value,
+    ) -> bool
+        ensures { Done (λ r. PutsAt operator array key.now value self.old r self.new) (came result self.new) }
+    {
+        if let AssignmentOperator::Plain = operator {
+            let assigned = self.runtime.assign_element(array, key, value);
+            return self.is_done(assigned);
+        }
+        let place = Place::Element(array);
+        let assigned = self
+            .runtime
+            .assign_by_at(operator_of(operator), place, key, value);
+        self.is_done(assigned)
+    }
+
+    /// Raises or lowers the number of the element at a key by 1.
+    #[inline(never)]
+    pub(crate) fn increment_element(
+        &mut self,
+        operator: IncrementOperator,
+        array: Array,
+        key: &Key,
+        target: &Target,
+    ) -> bool
+        requires { target.now ≡ ElementTarget array key.now }
+        ensures { Done (λ r. Raises operator target.now self.old r self.new) (came result self.new) }
+    {
+        if self.raise_at_hand(operator, array, key) {
+            return true;
+        }
+        self.increment_value(operator, target)
+    }
+
+    /// The same where the key is at hand, and that changes where it stands.
+    #[inline(always)]
+    fn raise_at_hand(&mut self, operator: IncrementOperator, array: Array, key: &Key) -> bool
+        ensures raised { result ≡ true → Done (λ r. Raises operator (ElementTarget array key.now) self.old r self.new) (Ok tt) }
+        ensures kept { result ≡ false → self.new ≡ self.old }
+    {
+        let Some(key) = self.key_at_hand(key) else {
+            return false;
+        };
+        let Some(_) = self.runtime.raise_element(operator, array, &key) else {
+            return false;
+        };
+        true
+    }
+
+    /// Raises or lowers what a target holds, of any kind, by 1; gives the number that it had.
+    pub(crate) fn post_increment_at(
+        &mut self,
+        operator: IncrementOperator,
+        target: &Target,
+    ) -> Result<Value, Halt>
+        ensures { Raises operator target.now self.old result self.new }
+    {
+        match target {
+            Target::Variable(variable) => {
+                let place = Place::Variable(*variable);
+                self.runtime
+                    .post_increment_at(operator, place, &Value::Nothing)
+            }
+            Target::Element(array, key) => {
+                let key = self.read_key(key)?;
+                self.runtime
+                    .post_increment_at(operator, Place::Element(*array), &key)
+            }
+        }
+    }
+}
