@@ -1,14 +1,17 @@
 // Records that no rule of a program wants. Where they are at hand they are passed over: nothing is asked of a world then.
 
-ghost use Rattle.std.specs.Prelude.{◌≤◌, ◌<◌, length, IfSome};
+ghost use Rattle.std.specs.Prelude.{◌≡◌, ◌≤◌, ◌<◌, suc, length, drop, IfSome};
+ghost use Rattle.std.specs.List.{count_by};
+ghost use Rattle.memchr.specs.Find.{is_byte};
 ghost use Rattle.awk_record.specs.Cut.{longest};
 ghost use Rattle.awk_streams.specs.WorldState.{WorldState};
 ghost use Rattle.awk_runtime.specs.support.Simulation.{IsReady};
-ghost use Rattle.awk_runtime.specs.support.Passing.{IsUnwanted, AreUnwantedUpTo, IsPassed, MayPass, PassesOver};
+ghost use Rattle.awk_runtime.specs.support.Passing.{IsUnwanted, AreUnwantedUpTo, IsPassed, IsEndOfLine, BeginsWithLine, MayPass, PassesOver};
 
 use crate::runtime::Runtime;
 use awk_streams::World;
-use memchr::memchr;
+use memchr::{memchr, memchr_iter, memrchr};
+use std::simd::prelude::*;
 
 /// The records that no rule of a program wants: each, or each in which an ERE of the program, by its number, has no match.
 #[derive(Clone, Copy)]
@@ -24,32 +27,90 @@ pub struct Passed {
     pub bytes: usize,
 }
 
+// So many bytes are looked at together where there are many, and where there are some.
+const MANY: usize = 64;
+
+const SOME: usize = 16;
+
+/// How often a byte stands among many.
+#[inline(always)]
+fn count_among_many(bytes: u8x64, byte: u8) -> usize
+    ensures { result ≡ count_by (is_byte byte) bytes }
+{
+    let marks = bytes.simd_eq(u8x64::splat(byte)).to_bitmask();
+    marks.count_ones() as usize
+}
+
+/// How often a byte stands among some.
+#[inline(always)]
+fn count_among_some(bytes: u8x16, byte: u8) -> usize
+    ensures { result ≡ count_by (is_byte byte) bytes }
+{
+    let marks = bytes.simd_eq(u8x16::splat(byte)).to_bitmask();
+    marks.count_ones() as usize
+}
+
+/// How often a byte stands in a text.
+fn count_of(text: &[u8], byte: u8) -> usize
+    ensures { result ≡ count_by (is_byte byte) text.now }
+{
+    let mut count = 0;
+    let mut rest = text;
+    while rest.len() >= MANY {
+        count += count_among_many(u8x64::from_slice(rest), byte);
+        rest = &rest[MANY..];
+    }
+    count + count_in_few(rest, byte)
+}
+
+/// The same of a text of few bytes.
+fn count_in_few(text: &[u8], byte: u8) -> usize
+    ensures { result ≡ count_by (is_byte byte) text.now }
+{
+    let mut count = 0;
+    let mut rest = text;
+    while rest.len() >= SOME {
+        count += count_among_some(u8x16::from_slice(rest), byte);
+        rest = &rest[SOME..];
+    }
+    count + memchr_iter(byte, rest).count()
+}
+
+/// Where the last record ends that ends at or before a place, by a separator of one byte, and isn't the last whole one.
+fn last_end(bytes: &[u8], place: usize, separator: u8) -> Option<usize>
+    requires place { place ≤ length bytes.now }
+    ensures end { IfSome result (IsEndOfLine separator bytes.now) }
+    ensures before { IfSome result (λ end. end ≤ suc place) }
+    ensures whole { IfSome result (λ end. BeginsWithLine separator (drop end bytes.now)) }
+{
+    let front = bytes.len().min(place.saturating_add(1));
+    let last = memrchr(separator, &bytes[..front])?;
+    if memchr(separator, &bytes[last + 1..]).is_some() {
+        return Some(last + 1);
+    }
+    match memrchr(separator, &bytes[..last]) {
+        Some(before) => Some(before + 1),
+        None => Some(0),
+    }
+}
+
 /// The records in front of these bytes, by a separator of one byte, that end at or before a place and have one more that is whole
-/// behind them; no more than so many.
+/// behind them, where they are no more than so many.
 fn passed_in(bytes: &[u8], place: usize, separator: u8, most: u64) -> Option<Passed>
     requires short { length bytes.now < longest }
     requires place { place ≤ length bytes.now }
     ensures passed { IfSome result (IsPassed separator bytes.now place) }
     ensures most { IfSome result (λ passed. passed.records ≤ most) }
 {
-    let mut passed = Passed {
-        records: 0,
-        bytes: 0,
-    };
-    let mut len = memchr(separator, &bytes[..place])?;
-    while (passed.records as u64) < most && len <= place - passed.bytes {
-        let next = passed.bytes + len + 1;
-        let Some(following) = memchr(separator, &bytes[next..]) else {
-            break;
-        };
-        passed.records += 1;
-        passed.bytes = next;
-        if next > place {
-            break;
-        }
-        len = following;
+    let end = last_end(bytes, place, separator)?;
+    let records = count_of(&bytes[..end], separator);
+    if records as u64 > most {
+        return None;
     }
-    Some(passed)
+    Some(Passed {
+        records,
+        bytes: end,
+    })
 }
 
 impl Runtime {

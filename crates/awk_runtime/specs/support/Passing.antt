@@ -1,5 +1,5 @@
 -- Records that no rule of a program wants, and that are passed over.
-use Rattle.std.specs.Prelude.{◌≡◌, ℕ, ◌+◌, ◌≤◌, ◌<◌, suc, true, false, List, [], ◌∷◌, ◌++◌, length, take, drop, is_some, Result, Ok}
+use Rattle.std.specs.Prelude.{◌≡◌, ◌⊎◌, ℕ, ◌+◌, ◌≤◌, ◌<◌, suc, true, false, List, [], ◌∷◌, ◌++◌, length, take, drop, get_or, is_some, Result, Ok}
 use Rattle.std.specs.List.{All}
 use Rattle.awk_value.specs.Values.{str_of}
 use Rattle.awk_streams.specs.WorldState.{WorldState}
@@ -44,6 +44,19 @@ pub record IsPassed (separator : ℕ) (bytes : List ℕ) (place : ℕ) (passed :
   pub is_next : IsLineOf separator next
   pub rest : List ℕ
   pub left : drop passed.bytes bytes ≡ next ++ separator ∷ rest
+
+-- this separator stands at a place
+pub record IsAt (separator : ℕ) (bytes : List ℕ) (place : ℕ) : Type 0 where
+  pub within : place < length bytes
+  pub there : get_or bytes place 0 ≡ separator
+
+-- the front of bytes, or a place behind a separator
+abbrev pub IsEndOfLine : (separator : ℕ) (bytes : List ℕ) (place : ℕ) → Type 0
+IsEndOfLine separator bytes place = (place ≡ 0) ⊎ ((last : ℕ) × (place ≡ last + 1) × IsAt separator bytes last)
+
+-- a whole record stands in front of these bytes
+abbrev pub BeginsWithLine : (separator : ℕ) (bytes : List ℕ) → Type 0
+BeginsWithLine separator bytes = (place : ℕ) × IsAt separator bytes place
 
 -- so many records are at hand that no rule wants, with one more behind them; no call is active, and there are steps for all
 pub record MayPass (unwanted : Unwanted) (m : Runtime) (passed : Passed) : Type 0 where
