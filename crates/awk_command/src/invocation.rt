@@ -10,7 +10,7 @@ use crate::command_line::{CommandLine, is_utf8, read_command_line};
 use crate::options::CommandFault;
 use crate::program_text::program_text;
 use crate::report::{NotRun, report_not_run, report_outcome};
-use awk_run::{Assignment, Outcome, Start, execute, status};
+use awk_run::{Assignment, Outcome, Start, Unwatched, Watch, execute_watched, status};
 use awk_streams::World;
 use std::alloc::{AllocError, Global};
 
@@ -35,11 +35,12 @@ fn text_entries(alloc: Global, environ: Vec<Assignment>) -> Result<Vec<Assignmen
 }
 
 /// Reads the program's text and runs it.
-fn run_command_line<W: World>(
+fn run_command_line<W: World, T: Watch>(
     alloc: Global,
     line: CommandLine,
     environ: Vec<Assignment>,
     world: &mut W,
+    watch: &mut T,
 ) -> Result<Outcome, NotRun>
     ensures { RunsCommandLine W.is_logged (view_of line) environ.items (W.state world.old) result (W.state world.new) }
 {
@@ -49,27 +50,28 @@ fn run_command_line<W: World>(
         source,
         operands,
     } = line;
-    let text = program_text(alloc, world, source)?;
+    let text = program_text(alloc, world, source, watch)?;
     let environ = text_entries(alloc, environ)?;
     let start = Start {
         pre,
         operands,
         environ,
     };
-    Ok(execute(alloc, &text, &start, limit, world)?)
+    Ok(execute_watched(alloc, &text, &start, limit, world, watch)?)
 }
 
 /// Reads the command line and runs it.
-fn invoke<W: World>(
+fn invoke<W: World, T: Watch>(
     alloc: Global,
     words: &[Vec<u8>],
     environ: Vec<Assignment>,
     world: &mut W,
+    watch: &mut T,
 ) -> Result<Outcome, NotRun>
     ensures { Invokes W.is_logged (texts words.now) environ.items (W.state world.old) result (W.state world.new) }
 {
     match read_command_line(alloc, words) {
-        Ok(line) => run_command_line(alloc, line, environ, world),
+        Ok(line) => run_command_line(alloc, line, environ, world, watch),
         Err(CommandFault::Usage) => Err(NotRun::Usage),
         Err(CommandFault::Memory) => Err(NotRun::Memory),
     }
@@ -90,7 +92,20 @@ pub fn main_words<W: World>(
 ) -> u8
     ensures { RunsUtility W.is_logged (texts words.now) environ.items (W.state world.old) result (W.state world.new) }
 {
-    match invoke(alloc, words, environ, world) {
+    main_words_watched(alloc, words, environ, world, &mut Unwatched)
+}
+
+/// Does what `main_words` does, and tells of the run while it goes on.
+pub fn main_words_watched<W: World, T: Watch>(
+    alloc: Global,
+    words: &[Vec<u8>],
+    environ: Vec<Assignment>,
+    world: &mut W,
+    watch: &mut T,
+) -> u8
+    ensures { RunsUtility W.is_logged (texts words.now) environ.items (W.state world.old) result (W.state world.new) }
+{
+    match invoke(alloc, words, environ, world, watch) {
         Ok(outcome) => {
             report_outcome(world, &outcome);
             status(&outcome)

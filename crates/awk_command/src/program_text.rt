@@ -11,6 +11,7 @@ ghost use Rattle.awk_command.specs.Parts.{ReadsChunk, LeavesChunk, LeavesInput, 
 use crate::command_line::ProgramSource;
 use crate::report::NotRun;
 use awk_lex::lexer::LIMIT;
+use awk_run::Watch;
 use awk_streams::{InputKind, World, WorldFault};
 use std::alloc::{AllocError, Global};
 
@@ -116,7 +117,12 @@ fn append_file(text: &mut Vec<u8>, bytes: &[u8]) -> Result<(), AllocError>
 }
 
 /// The joined texts of files.
-fn read_files<W: World>(alloc: Global, world: &mut W, names: &[Vec<u8>]) -> Result<Vec<u8>, NotRun>
+fn read_files<W: World, T: Watch>(
+    alloc: Global,
+    world: &mut W,
+    names: &[Vec<u8>],
+    watch: &mut T,
+) -> Result<Vec<u8>, NotRun>
     ensures read { IfOk result
         (λ text. W.is_logged → ReadsFiles (texts names.now) text.items (W.state world.old).log (W.state world.new).log) }
     ensures err { IfErr result IsNotRead }
@@ -127,20 +133,25 @@ fn read_files<W: World>(alloc: Global, world: &mut W, names: &[Vec<u8>]) -> Resu
     for name in names {
         let bytes = read_file(alloc, world, name)?;
         append_file(&mut text, &bytes)?;
+        watch.read(&bytes);
     }
     Ok(text)
 }
 
 /// The text of a program. (POSIX awk, OPTIONS)
-pub(crate) fn program_text<W: World>(
+pub(crate) fn program_text<W: World, T: Watch>(
     alloc: Global,
     world: &mut W,
     source: ProgramSource,
+    watch: &mut T,
 ) -> Result<Vec<u8>, NotRun>
     ensures text { ProvidesText W.is_logged (source_of source) (W.state world.old) result (W.state world.new) }
 {
     match source {
-        ProgramSource::Text(text) => Ok(text),
-        ProgramSource::Files(names) => read_files(alloc, world, &names),
+        ProgramSource::Text(text) => {
+            watch.read(&text);
+            Ok(text)
+        }
+        ProgramSource::Files(names) => read_files(alloc, world, &names, watch),
     }
 }

@@ -59,6 +59,13 @@ impl Calls {
         self.entries.is_empty()
     }
 
+    /// The callers, that of the newest last.
+    pub fn as_slice(&self) -> &[Entry]
+        ensures { result.now ≡ self.now }
+    {
+        &self.entries
+    }
+
     /// All calls are over.
     pub fn clear(&mut self)
         ensures { self.new ≡ [] }

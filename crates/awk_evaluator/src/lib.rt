@@ -23,6 +23,8 @@ mod text_values;
 mod updates;
 mod values;
 mod walks;
+mod watch;
 
 pub use laws::law_of_plans;
 pub use machine::{Machine, Move};
+pub use watch::{Unwatched, Watch};

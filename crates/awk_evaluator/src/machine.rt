@@ -10,6 +10,7 @@ use crate::calls::Calls;
 use crate::moves::node_at;
 use crate::operands::Operands;
 use crate::room::Room;
+use crate::watch::Watch;
 use awk_resolve::Plan;
 use awk_runtime::Runtime;
 use awk_semantics::Halt;
@@ -63,7 +64,13 @@ impl Machine {
     }
 
     /// Runs what stands at a place of the plan, whose value is of no use. Behind an `Err` calls may be active still.
-    pub fn execute<W: World>(&mut self, world: &mut W, plan: &Plan, place: u32) -> Result<(), Halt>
+    pub fn execute<W: World, T: Watch>(
+        &mut self,
+        world: &mut W,
+        plan: &Plan,
+        place: u32,
+        watch: &mut T,
+    ) -> Result<(), Halt>
         requires sound { IsSound plan.now }
         requires idle { IsIdle self.old }
         requires ready { IsReady W.is_logged (W.state world.old) self.old.runtime.streams }
@@ -71,7 +78,7 @@ impl Machine {
         ensures idle { OnOk result (IsIdle self.new) }
         ensures executes { Done (λ r. Executes W.is_logged plan.now place self.old (W.state world.old) r self.new (W.state world.new)) result }
     {
-        self.run(world, plan, place)
+        self.run(world, plan, place, watch)
     }
 
     /// Behind a `next` or an `exit`: no call is active any more.
@@ -86,7 +93,13 @@ impl Machine {
     }
 
     /// Goes on from a place to the end.
-    fn run<W: World>(&mut self, world: &mut W, plan: &Plan, start: u32) -> Result<(), Halt>
+    fn run<W: World, T: Watch>(
+        &mut self,
+        world: &mut W,
+        plan: &Plan,
+        start: u32,
+        watch: &mut T,
+    ) -> Result<(), Halt>
         requires sound { IsSound plan.now }
         requires ready { IsReady W.is_logged (W.state world.old) self.old.runtime.streams }
         ensures ready { IsReady W.is_logged (W.state world.new) self.new.runtime.streams }
@@ -94,13 +107,16 @@ impl Machine {
     {
         let mut at = start;
         'steps: loop {
-            match self.to_step(world, plan, at) {
+            match self.to_step(world, plan, at, watch) {
                 Move::Up(next) => at = next,
                 Move::Over => {
                     self.operands.clear();
                     return Ok(());
                 }
-                Move::Halted => return Err(self.halt),
+                Move::Halted => {
+                    watch.halt(self);
+                    return Err(self.halt);
+                }
                 Move::On(_) | Move::Back(_) => unreachable!(),
             }
         }
@@ -108,7 +124,13 @@ impl Machine {
 
     /// Goes on to the next step or the end.
     #[inline(always)]
-    fn to_step<W: World>(&mut self, world: &mut W, plan: &Plan, start: u32) -> Move
+    fn to_step<W: World, T: Watch>(
+        &mut self,
+        world: &mut W,
+        plan: &Plan,
+        start: u32,
+        watch: &mut T,
+    ) -> Move
         requires sound { IsSound plan.now }
         requires ready { IsReady W.is_logged (W.state world.old) self.old.runtime.streams }
         ensures ready { IsReady W.is_logged (W.state world.new) self.new.runtime.streams }
@@ -116,7 +138,7 @@ impl Machine {
     {
         let mut at = start;
         'returns: loop {
-            match self.to_turn(world, plan, at) {
+            match self.to_turn(world, plan, at, watch) {
                 Move::Back(next) => at = next,
                 other => return other,
             }
@@ -125,7 +147,13 @@ impl Machine {
 
     /// Goes on to the next step, return or end.
     #[inline(always)]
-    fn to_turn<W: World>(&mut self, world: &mut W, plan: &Plan, start: u32) -> Move
+    fn to_turn<W: World, T: Watch>(
+        &mut self,
+        world: &mut W,
+        plan: &Plan,
+        start: u32,
+        watch: &mut T,
+    ) -> Move
         requires sound { IsSound plan.now }
         requires ready { IsReady W.is_logged (W.state world.old) self.old.runtime.streams }
         ensures ready { IsReady W.is_logged (W.state world.new) self.new.runtime.streams }
@@ -136,6 +164,7 @@ impl Machine {
             return self.give_nothing();
         };
         'moves: loop {
+            watch.visit(at);
             match self.make_move(world, plan, node) {
                 Move::On(next) => at = next,
                 other => return other,

@@ -183,18 +183,18 @@ end_made c (Err e) p q = tt
 -- a plan
 
 -- where its parts begin
-abbrev pub plan_with : ProgramKinds → Builder → Vec PlannedFunction → (begin rules last : ℕ) (reads_records : Bool) → Plan
-plan_with kinds b functions begin rules last reads_records = record { nodes = b.nodes; heads = b.heads; names = b.names; eres = b.eres; functions = functions; begin = begin; rules = rules; end = last; kinds = kinds; reads_records = reads_records }
+abbrev pub plan_with : ProgramKinds → Builder → Vec PlannedFunction → (begin rules last : ℕ) (places : Vec ℕ) (reads_records : Bool) → Plan
+plan_with kinds b functions begin rules last places reads_records = record { nodes = b.nodes; heads = b.heads; conditions = b.conditions; names = b.names; eres = b.eres; functions = functions; begin = begin; rules = rules; end = last; rule_places = places; kinds = kinds; reads_records = reads_records }
 
 -- what is held while a program is lowered is done by its plan
-done : (items : List Item) (kinds : ProgramKinds) (b : Builder) (functions : Vec PlannedFunction) (begin rules last : ℕ) (reads_records : Bool) → array_parameters_in b ≡ map (λ (f : Signature). arrays_among f.parameters) (kinds_of items).functions
-    → (parameters : List FormalParameter) (k : ℕ) (m : Meaning) → Holds (kinds_of items) b parameters k m → DoesIn items (plan_with kinds b functions begin rules last reads_records) parameters k m
-done items kinds b functions begin rules last reads_records arrays parameters k m h = record {
+done : (items : List Item) (kinds : ProgramKinds) (b : Builder) (functions : Vec PlannedFunction) (begin rules last : ℕ) (places : Vec ℕ) (reads_records : Bool) → array_parameters_in b ≡ map (λ (f : Signature). arrays_among f.parameters) (kinds_of items).functions
+    → (parameters : List FormalParameter) (k : ℕ) (m : Meaning) → Holds (kinds_of items) b parameters k m → DoesIn items (plan_with kinds b functions begin rules last places reads_records) parameters k m
+done items kinds b functions begin rules last places reads_records arrays parameters k m h = record {
   below = h.stands.below;
   is = λ calls for n vs s i.
       h.is (record {
         all = b;
-        tables = tables_of items (plan_with kinds b functions begin rules last reads_records);
+        tables = tables_of items (plan_with kinds b functions begin rules last places reads_records);
         functions = calls;
         names = ([], sym (append-nil b.names));
         eres = ([], sym (append-nil b.eres.items));
@@ -212,11 +212,11 @@ planned_arrays Does [] (d ∷ ds) h = absurd h
 planned_arrays Does (f ∷ fs) [] h = absurd h
 planned_arrays Does (f ∷ fs) (d ∷ ds) h = ap (λ a. a ∷ map (λ (g : Signature). arrays_among g.parameters) (map signature_by ds)) (sym h.0.arrays) ∙ ap (λ l. f.arrays.items ∷ l) (planned_arrays Does fs ds h.1)
 
-pub planned : {items : List Item} {kinds : ProgramKinds} {a b c d e f : Builder} {functions : Vec PlannedFunction} {over begin rules last : ℕ} {reads_records : Bool} → a.nodes.items ≡ [] → a.names ≡ [] → array_parameters_in a ≡ map (λ (g : Signature). arrays_among g.parameters) (kinds_of items).functions
+pub planned : {items : List Item} {kinds : ProgramKinds} {a b c d e f : Builder} {functions : Vec PlannedFunction} {over begin rules last : ℕ} {places : Vec ℕ} {reads_records : Bool} → a.nodes.items ≡ [] → a.names ≡ [] → array_parameters_in a ≡ map (λ (g : Signature). arrays_among g.parameters) (kinds_of items).functions
     → AddsEnd (kinds_of items) a b over → AddsFunctions (kinds_of items) b c functions.items (definitions_of items)
     → AddsPlace (kinds_of items) c d [] last (end_run items) → AddsPlace (kinds_of items) d e [] rules (rules_run 0 items) → AddsPlace (kinds_of items) e f [] begin (begin_run items)
-    → reads_records ≡ has_rule items → IsPlanOf items (plan_with kinds f functions begin rules last reads_records)
-planned {items = items} {kinds = kinds} {a = a} {f = f} {functions = functions} {begin = begin} {rules = rules} {last = last} {reads_records = reads_records} no_nodes no_names arrays first second third fourth fifth reads =
+    → reads_records ≡ has_rule items → IsPlanOf items (plan_with kinds f functions begin rules last places reads_records)
+planned {items = items} {kinds = kinds} {a = a} {f = f} {functions = functions} {begin = begin} {rules = rules} {last = last} {places = places} {reads_records = reads_records} no_nodes no_names arrays first second third fourth fifth reads =
     let behind_functions = grows third.grows (grows fourth.grows fifth.grows) in
     let g = grows first.grows (grows second.grows behind_functions) in
     let are : array_parameters_in f ≡ map (λ (x : Signature). arrays_among x.parameters) (kinds_of items).functions = arrays_same a f g.functions ∙ arrays in
@@ -227,10 +227,10 @@ planned {items = items} {kinds = kinds} {a = a} {f = f} {functions = functions} 
       calls = subst (λ k. AllCallsFit k f.nodes.items) (are ∙ planned_arrays (Holds (kinds_of items) _) functions.items (definitions_of items) second.are) fit;
       distinct = scalars.distinct;
       scalars = scalars;
-      functions = functions_also (λ parameters k m h. done items kinds f functions begin rules last reads_records are parameters k m (holds_later behind_functions h)) functions.items (definitions_of items) second.are;
-      begin = done items kinds f functions begin rules last reads_records are [] begin _ fifth.holds;
-      rules = done items kinds f functions begin rules last reads_records are [] rules _ (holds_later fifth.grows fourth.holds);
-      end = done items kinds f functions begin rules last reads_records are [] last _ (holds_later (grows fourth.grows fifth.grows) third.holds);
+      functions = functions_also (λ parameters k m h. done items kinds f functions begin rules last places reads_records are parameters k m (holds_later behind_functions h)) functions.items (definitions_of items) second.are;
+      begin = done items kinds f functions begin rules last places reads_records are [] begin _ fifth.holds;
+      rules = done items kinds f functions begin rules last places reads_records are [] rules _ (holds_later fifth.grows fourth.holds);
+      end = done items kinds f functions begin rules last places reads_records are [] last _ (holds_later (grows fourth.grows fifth.grows) third.holds);
       reads = reads;
     }
 

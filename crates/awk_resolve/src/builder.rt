@@ -16,6 +16,8 @@ pub struct Builder {
     pub nodes: Vec<Node>,
     /// The place of each loop's body, by the loop's number; 0 for one that isn't known yet.
     pub heads: Vec<u32>,
+    /// The place of each loop's condition, likewise.
+    pub conditions: Vec<u32>,
     /// The scalars of the whole program that a run keeps by name, by their slots.
     pub names: ScalarNames,
     /// The texts of the program's EREs.
@@ -71,15 +73,19 @@ impl Builder {
     {
         let number = next_number(self.heads.len())?;
         self.heads.push(0)?;
+        self.conditions.push(0)?;
         Ok(number)
     }
 
-    /// Notes the place of a loop's body.
-    pub fn close(&mut self, number: u32, body: u32)
+    /// Notes the places of a loop's body and of its condition.
+    pub fn close(&mut self, number: u32, body: u32, condition: u32)
         requires { number < length self.old.heads.items }
         ensures { Closes self.old self.new number body }
     {
         self.heads[number as usize] = body;
+        if let Some(place) = self.conditions.get_mut(number as usize) {
+            *place = condition;
+        }
     }
 
     /// The slot of a scalar of the whole program.

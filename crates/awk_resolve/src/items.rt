@@ -157,12 +157,13 @@ impl Builder {
         }
     }
 
-    /// The items of a program on a record, in their order.
+    /// The items of a program on a record, in their order; their places are put behind the others, from the last item on.
     pub(crate) fn lower_rules(
         &mut self,
         kinds: &Kinds,
         items: &[Item],
         over: u32,
+        places: &mut Vec<u32>,
     ) -> Result<u32, AllocError>
         requires over { IsOver kinds.now over self.old }
         requires in_place { are_in_place (items_of items.now) ≡ true }
@@ -172,6 +173,7 @@ impl Builder {
         for i in (0..items.len()).rev() {
             let number = next_number(i)?;
             next = self.lower_item(kinds, number, &items[i], next)?;
+            places.push(next)?;
         }
         Ok(next)
     }

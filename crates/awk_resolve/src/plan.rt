@@ -22,6 +22,8 @@ pub struct Plan {
     pub nodes: Vec<Node>,
     /// The place of each loop's body, by the loop's number.
     pub heads: Vec<u32>,
+    /// The place of each loop's condition, or behind the keys of a walk, likewise.
+    pub conditions: Vec<u32>,
     /// The scalars of the whole program that a run keeps by name, by their slots.
     pub names: ScalarNames,
     /// The texts of the program's EREs, by their numbers.
@@ -34,6 +36,8 @@ pub struct Plan {
     pub rules: u32,
     /// The place of the actions that come behind all records.
     pub end: u32,
+    /// The places of the items as rules, from the last item on.
+    pub rule_places: Vec<u32>,
     /// The kinds of the program's names.
     pub kinds: Kinds,
     /// Whether records are read at all: not where only BEGIN and functions stand.

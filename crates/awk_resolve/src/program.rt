@@ -119,6 +119,7 @@ fn lower_program(alloc: Global, items: &[Item], kinds: Kinds) -> Result<Plan, Al
         alloc,
         nodes: Vec::new(alloc),
         heads: Vec::new(alloc),
+        conditions: Vec::new(alloc),
         names: ScalarNames::new(alloc),
         eres: Vec::new(alloc),
         array_parameters,
@@ -126,17 +127,20 @@ fn lower_program(alloc: Global, items: &[Item], kinds: Kinds) -> Result<Plan, Al
     let over = builder.push_end()?;
     let functions = builder.lower_functions(&kinds, items, over)?;
     let end = builder.lower_end(&kinds, items, over)?;
-    let rules = builder.lower_rules(&kinds, items, over)?;
+    let mut rule_places = Vec::new(alloc);
+    let rules = builder.lower_rules(&kinds, items, over, &mut rule_places)?;
     let begin = builder.lower_begin(&kinds, items, over)?;
     Ok(Plan {
         nodes: builder.nodes,
         heads: builder.heads,
+        conditions: builder.conditions,
         names: builder.names,
         eres: builder.eres,
         functions,
         begin,
         rules,
         end,
+        rule_places,
         kinds,
         reads_records: has_rule(items),
     })

@@ -115,7 +115,7 @@ impl Builder {
             continues: condition,
         };
         let body = self.lower_statement(scope, s, around)?;
-        self.close(number, body);
+        self.close(number, body, condition);
         self.step(condition)
     }
 
@@ -140,7 +140,7 @@ impl Builder {
             continues: condition,
         };
         let body = self.lower_statement(scope, s, around)?;
-        self.close(number, body);
+        self.close(number, body, condition);
         self.step(again)
     }
 
@@ -166,7 +166,7 @@ impl Builder {
             continues: last,
         };
         let body = self.lower_statement(scope, s, around)?;
-        self.close(number, body);
+        self.close(number, body, condition);
         let first = self.lower_part(scope, &parts.first, condition)?;
         self.step(first)
     }
@@ -196,7 +196,7 @@ impl Builder {
         };
         let body = self.lower_statement(scope, s, around)?;
         let take = self.push(Node::TakeKey(variable, body))?;
-        self.close(number, take);
+        self.close(number, take, leave);
         let walk = self.push(Node::Walk(array, next))?;
         self.step(walk)
     }

@@ -7,18 +7,19 @@ ghost use Rattle.awk_run.specs.support.Follows.{FollowsPlan, IsSet};
 ghost use Rattle.awk_evaluator.specs.Moves.{IsIdle};
 
 use crate::records::run_records;
-use awk_evaluator::Machine;
+use awk_evaluator::{Machine, Watch};
 use awk_resolve::Plan;
 use awk_semantics::Halt;
 use awk_streams::World;
 
 /// Runs a part of the program, from its place in the plan. Behind an `Err` calls may be active still.
 #[inline(always)]
-pub(crate) fn run_part<W: World>(
+pub(crate) fn run_part<W: World, T: Watch>(
     plan: &Plan,
     place: u32,
     machine: &mut Machine,
     world: &mut W,
+    watch: &mut T,
 ) -> Result<(), Halt>
     requires set { IsSet W.is_logged plan.now machine.old.runtime (W.state world.old) }
     requires idle { IsIdle machine.old }
@@ -27,7 +28,7 @@ pub(crate) fn run_part<W: World>(
     ensures follows { FollowsPlan W.is_logged plan.now (λ at. part_at at place) machine.old.runtime (W.state world.old)
         machine.new.runtime (W.state world.new) result }
 {
-    machine.execute(world, plan, place)
+    machine.execute(world, plan, place, watch)
 }
 
 /// What the rules on a record came to; `next` ends them, and the run goes on.
@@ -44,10 +45,11 @@ fn unless_next(tried: Result<(), Halt>) -> Result<(), Halt>
 /// Tries the rules on the record at hand, until `next`, which ends the calls that are active, too (POSIX awk, Patterns;
 /// Actions).
 #[inline(always)]
-pub(crate) fn try_until_next<W: World>(
+pub(crate) fn try_until_next<W: World, T: Watch>(
     plan: &Plan,
     machine: &mut Machine,
     world: &mut W,
+    watch: &mut T,
 ) -> Result<(), Halt>
     requires set { IsSet W.is_logged plan.now machine.old.runtime (W.state world.old) }
     requires idle { IsIdle machine.old }
@@ -56,23 +58,28 @@ pub(crate) fn try_until_next<W: World>(
     ensures follows { FollowsPlan W.is_logged plan.now (λ at. until_next (part_at at plan.now.rules)) machine.old.runtime
         (W.state world.old) machine.new.runtime (W.state world.new) result }
 {
-    let tried = run_part(plan, plan.rules, machine, world);
+    let tried = run_part(plan, plan.rules, machine, world, watch);
     machine.end_calls();
     unless_next(tried)
 }
 
 /// Runs the actions before all records, and then the rules on the main records; where only BEGIN stands, none is read.
 /// (POSIX awk, Overall Program Structure; Patterns: BEGIN)
-fn run_before_end<W: World>(plan: &Plan, machine: &mut Machine, world: &mut W) -> Result<(), Halt>
+fn run_before_end<W: World, T: Watch>(
+    plan: &Plan,
+    machine: &mut Machine,
+    world: &mut W,
+    watch: &mut T,
+) -> Result<(), Halt>
     requires set { IsSet W.is_logged plan.now machine.old.runtime (W.state world.old) }
     requires idle { IsIdle machine.old }
     ensures set { IsSet W.is_logged plan.now machine.new.runtime (W.state world.new) }
     ensures follows { FollowsPlan W.is_logged plan.now (λ at. run_before_end_at at plan.now) machine.old.runtime
         (W.state world.old) machine.new.runtime (W.state world.new) result }
 {
-    run_part(plan, plan.begin, machine, world)?;
+    run_part(plan, plan.begin, machine, world, watch)?;
     if plan.reads_records {
-        run_records(plan, machine, world)?;
+        run_records(plan, machine, world, watch)?;
     }
     Ok(())
 }
@@ -88,7 +95,12 @@ fn unless_exit(ended: Result<(), Halt>) -> Result<(), Halt>
 }
 
 /// Runs what comes before the END actions, until `exit`, which ends the calls that are active, too.
-fn run_until_exit<W: World>(plan: &Plan, machine: &mut Machine, world: &mut W) -> Result<(), Halt>
+fn run_until_exit<W: World, T: Watch>(
+    plan: &Plan,
+    machine: &mut Machine,
+    world: &mut W,
+    watch: &mut T,
+) -> Result<(), Halt>
     requires set { IsSet W.is_logged plan.now machine.old.runtime (W.state world.old) }
     requires idle { IsIdle machine.old }
     ensures set { IsSet W.is_logged plan.now machine.new.runtime (W.state world.new) }
@@ -96,17 +108,18 @@ fn run_until_exit<W: World>(plan: &Plan, machine: &mut Machine, world: &mut W) -
     ensures follows { FollowsPlan W.is_logged plan.now (λ at. until_exit (run_before_end_at at plan.now)) machine.old.runtime
         (W.state world.old) machine.new.runtime (W.state world.new) result }
 {
-    let before = run_before_end(plan, machine, world);
+    let before = run_before_end(plan, machine, world, watch);
     machine.end_calls();
     unless_exit(before)
 }
 
 /// Runs the items: those before the END actions until `exit`, and then these. (POSIX awk, Overall
 /// Program Structure; Patterns: END; Actions)
-pub(crate) fn run_items<W: World>(
+pub(crate) fn run_items<W: World, T: Watch>(
     plan: &Plan,
     machine: &mut Machine,
     world: &mut W,
+    watch: &mut T,
 ) -> Result<(), Halt>
     requires set { IsSet W.is_logged plan.now machine.old.runtime (W.state world.old) }
     requires idle { IsIdle machine.old }
@@ -114,6 +127,6 @@ pub(crate) fn run_items<W: World>(
     ensures follows { FollowsPlan W.is_logged plan.now (λ at. run_items_at at plan.now) machine.old.runtime (W.state world.old)
         machine.new.runtime (W.state world.new) result }
 {
-    run_until_exit(plan, machine, world)?;
-    run_part(plan, plan.end, machine, world)
+    run_until_exit(plan, machine, world, watch)?;
+    run_part(plan, plan.end, machine, world, watch)
 }

@@ -5,6 +5,7 @@
 //! - `read_program` reads a text as a `Program`, or says why it is refused; `run` runs one, and `run_counted` counts how
 //!   often the texts of its records were split and made anew.
 //! - `Patterns` keeps the EREs of a run, `Control` its active calls.
+//! - `execute_watched` does what `execute` does, and tells a `Watch` of the run.
 //! - `one_program`, `law_of_limits`, `law_of_outcomes`, `law_of_turns`, `law_of_untouched`: laws of programs and runs.
 #![tactic(auto)]
 
@@ -15,12 +16,14 @@ mod program;
 mod records;
 mod start;
 
+pub use awk_evaluator::{Unwatched, Watch};
 pub use awk_functions::Patterns;
 pub use awk_semantics::{
     Fault, Outcome, fault_line, law_of_limits, law_of_outcomes, law_of_turns, status,
 };
 pub use awk_storage::Control;
 pub use program::{
-    Program, execute, law_of_untouched, one_program, read_program, run, run_counted,
+    Program, execute, execute_watched, law_of_untouched, one_program, read_program, run,
+    run_counted,
 };
 pub use start::{Assignment, Start};

@@ -18,7 +18,7 @@ ghost use Rattle.awk_run.specs.support.Verdict.{outcome_after, no_streams, EndsW
 use crate::items::run_items;
 use crate::names::program_names;
 use crate::start::{Assignment, Start};
-use awk_evaluator::Machine;
+use awk_evaluator::{Machine, Watch};
 use awk_kinds::Kinds;
 use awk_resolve::Plan;
 use awk_runtime::Runtime;
@@ -63,11 +63,12 @@ fn assign_all(assignments: &[Assignment], runtime: &mut Runtime) -> Result<(), H
 }
 
 /// Makes the assignments before a run, and runs the items.
-fn assign_and_run<W: World>(
+fn assign_and_run<W: World, T: Watch>(
     plan: &Plan,
     assignments: &[Assignment],
     machine: &mut Machine,
     world: &mut W,
+    watch: &mut T,
 ) -> Result<(), Halt>
     requires set { IsSet W.is_logged plan.now machine.old.runtime (W.state world.old) }
     requires idle { IsIdle machine.old }
@@ -76,7 +77,7 @@ fn assign_and_run<W: World>(
         machine.old.runtime (W.state world.old) machine.new.runtime (W.state world.new) result }
 {
     assign_all(assignments, &mut machine.runtime)?;
-    run_items(plan, machine, world)
+    run_items(plan, machine, world, watch)
 }
 
 /// The machine before a run of a plan.
@@ -109,13 +110,14 @@ fn end_without_streams<W: World>(alloc: Global, world: &mut W) -> Result<(), Str
 /// program's names: what it leaves in the world, and its outcome, are those of the program. Behind the
 /// outcome stands how often the texts of records were split and made anew. (POSIX awk, Overall
 /// Program Structure)
-pub(crate) fn run_plan<W: World>(
+pub(crate) fn run_plan<W: World, T: Watch>(
     alloc: Global,
     plan: &Plan,
     kinds: &Kinds,
     start: &Start,
     limit: u64,
     world: &mut W,
+    watch: &mut T,
 ) -> (Outcome, u64, u64)
     requires program { AreOfAProgram plan.now kinds.now }
     requires sound { W.is_logged → AreSound (W.state world.old) no_streams }
@@ -128,9 +130,10 @@ pub(crate) fn run_plan<W: World>(
         let _ = end_without_streams(alloc, world);
         return (Outcome::Fault(Fault::OutOfMemory), 0, 0);
     };
-    let ended = assign_and_run(plan, &start.pre, &mut machine, world);
+    let ended = assign_and_run(plan, &start.pre, &mut machine, world, watch);
     let finished = machine.runtime.streams.finish(world);
     let outcome = outcome_after(outcome_of(ended, machine.runtime.status), finished);
+    watch.end(&machine, &outcome);
     let record = &machine.runtime.current;
     (outcome, record.splits(), record.joins())
 }

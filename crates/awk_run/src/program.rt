@@ -15,6 +15,7 @@ ghost use Rattle.awk_run.specs.support.Verdict.{no_streams};
 
 use crate::plan_run::run_plan;
 use crate::start::Start;
+use awk_evaluator::{Unwatched, Watch};
 use awk_journal::{Beginning, Logged};
 use awk_kinds::law_of_refusals;
 use awk_lex::lexer::tokens;
@@ -52,12 +53,13 @@ pub fn read_program(alloc: Global, text: &[u8]) -> Result<Program, Refusal>
 }
 
 /// Runs a program in a world, over a log of its own: what the run does is all that this log holds.
-fn run_logged<W: World, B: Beginning>(
+fn run_logged<W: World, B: Beginning, T: Watch>(
     alloc: Global,
     program: &Program,
     start: &Start,
     limit: u64,
     world: W,
+    watch: &mut T,
 ) -> (W, (Outcome, u64, u64))
     requires program { IsRead program.now }
     requires placed { W.place world ≡ B.place }
@@ -77,6 +79,7 @@ fn run_logged<W: World, B: Beginning>(
         start,
         limit,
         &mut logged,
+        watch,
     );
     (logged.into_world(), counted)
 }
@@ -118,7 +121,25 @@ pub fn run_counted<W: World>(
     ensures runs { (items : List Item) → Holds items program.now →
         RunsFrom W.is_logged items (start_values start.now) limit (W.state world.old) (W.state world.new) result.0 }
 {
-    let (_, counted) = run_logged::<&mut W, Brand>(alloc, program, start, limit, world);
+    run_over_log(alloc, program, start, limit, world, &mut Unwatched)
+}
+
+/// Does what `run_counted` does, over a log of its own.
+fn run_over_log<W: World, T: Watch>(
+    alloc: Global,
+    program: &Program,
+    start: &Start,
+    limit: u64,
+    world: &mut W,
+    watch: &mut T,
+) -> (Outcome, u64, u64)
+    requires program { IsRead program.now }
+    ensures since { (items : List Item) → Holds items program.now →
+        RunsSince W.is_logged items (start_values start.now) limit (W.state world.old) (W.state world.new) result.0 }
+    ensures runs { (items : List Item) → Holds items program.now →
+        RunsFrom W.is_logged items (start_values start.now) limit (W.state world.old) (W.state world.new) result.0 }
+{
+    let (_, counted) = run_logged::<&mut W, Brand, T>(alloc, program, start, limit, world, watch);
     counted
 }
 
@@ -138,8 +159,24 @@ pub fn execute<W: World>(
         (W.state world.new) result }
     ensures untouched { OnErr result (world.new ≡ world.old) }
 {
+    execute_watched(alloc, text, start, limit, world, &mut Unwatched)
+}
+
+/// Does what `execute` does, and tells of the run while it goes on.
+pub fn execute_watched<W: World, T: Watch>(
+    alloc: Global,
+    text: &[u8],
+    start: &Start,
+    limit: u64,
+    world: &mut W,
+    watch: &mut T,
+) -> Result<Outcome, Refusal>
+    ensures executed { Executed W.is_logged text.now (start_values start.now) limit (W.state world.old)
+        (W.state world.new) result }
+    ensures untouched { OnErr result (world.new ≡ world.old) }
+{
     let program = read_program(alloc, text)?;
-    Ok(run(alloc, &program, start, limit, world))
+    Ok(run_over_log(alloc, &program, start, limit, world, watch).0)
 }
 
 /// A text is at most one program.

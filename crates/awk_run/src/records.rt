@@ -9,7 +9,7 @@ ghost use Rattle.awk_runtime.specs.Simulation.{IsReady};
 ghost use Rattle.awk_evaluator.specs.Moves.{IsIdle};
 
 use crate::items::try_until_next;
-use awk_evaluator::Machine;
+use awk_evaluator::{Machine, Watch};
 use awk_resolve::Plan;
 use awk_resolve::node::{Node, Operand};
 use awk_runtime::Unwanted;
@@ -83,10 +83,11 @@ fn search_next<W: World>(machine: &mut Machine, world: &mut W) -> Result<bool, H
 
 /// Reads the main records to their end, and tries the rules on each (POSIX awk, Overall Program
 /// Structure).
-pub(crate) fn run_records<W: World>(
+pub(crate) fn run_records<W: World, T: Watch>(
     plan: &Plan,
     machine: &mut Machine,
     world: &mut W,
+    watch: &mut T,
 ) -> Result<(), Halt>
     requires set { IsSet W.is_logged plan.now machine.old.runtime (W.state world.old) }
     requires idle { IsIdle machine.old }
@@ -100,6 +101,6 @@ pub(crate) fn run_records<W: World>(
         if !begin_next(machine, world)? {
             return Ok(());
         }
-        try_until_next(plan, machine, world)?;
+        try_until_next(plan, machine, world, watch)?;
     }
 }

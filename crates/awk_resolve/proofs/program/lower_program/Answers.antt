@@ -25,4 +25,4 @@ returns-clause-plan c =
     let last = rw c.requires.kinds at (c.in_ok-end.ensures {u = tt}) in
     let rules = rw c.requires.kinds at (c.in_ok-rules.ensures {u = tt}) in
     let begin = rw c.requires.kinds at (c.in_ok-begin.ensures {u = tt}) in
-    planned c.new.ensures.items c.new-3.ensures (c.in_ok-array_parameters.ensures ∙ ap (λ (k : ProgramKinds). map (λ (f : Signature). arrays_among f.parameters) k.functions) c.requires.kinds) (c.in_ok-over.ensures {u = tt} kinds) functions last rules begin c.has_rule.ensures
+    planned c.new.ensures.items c.new-4.ensures (c.in_ok-array_parameters.ensures ∙ ap (λ (k : ProgramKinds). map (λ (f : Signature). arrays_among f.parameters) k.functions) c.requires.kinds) (c.in_ok-over.ensures {u = tt} kinds) functions last rules begin c.has_rule.ensures

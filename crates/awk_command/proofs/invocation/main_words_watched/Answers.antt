@@ -1,7 +1,7 @@
 use Rattle.std.proofs.Common.{Ok, Err, refl}
 use Rattle.awk_command.specs.CommandLine.{texts}
 use Rattle.awk_command.proofs.InvocationLemmas.{runs_utility}
-use Rattle.awk_command.proofs.invocation.main_words.Goals as goal
+use Rattle.awk_command.proofs.invocation.main_words_watched.Goals as goal
 
 pub returns-in-Ok : goal.returns-in-Ok
 returns-in-Ok g c =
