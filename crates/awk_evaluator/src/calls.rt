@@ -53,7 +53,7 @@ impl Calls {
 
     /// Whether no call is active.
     #[inline(always)]
-    pub fn are_over(&self) -> bool
+    pub(crate) fn are_over(&self) -> bool
         ensures { result ≡ true → self.now ≡ [] }
     {
         self.entries.is_empty()

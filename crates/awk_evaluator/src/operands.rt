@@ -63,7 +63,7 @@ impl Operands {
 
     /// Puts a copy of a value on top. `false`, and nothing changes, where memory is refused.
     #[inline(never)]
-    pub fn push_copy(&mut self, value: &Value) -> bool
+    pub(crate) fn push_copy(&mut self, value: &Value) -> bool
         ensures pushed { result ≡ true → self.new ≡ record self.old { values = value.now ∷ self.old.values } }
         ensures unchanged { result ≡ false → self.new ≡ self.old }
     {
@@ -90,7 +90,7 @@ impl Operands {
 
     /// Takes the two topmost values off, of which the topmost was evaluated last; nothing for one that isn't there.
     #[inline(always)]
-    pub fn pop_two(&mut self) -> (Value, Value)
+    pub(crate) fn pop_two(&mut self) -> (Value, Value)
         ensures left { result.0 ≡ second self.old.values }
         ensures right { result.1 ≡ first self.old.values }
         ensures rest { self.new ≡ record self.old { values = drop 2 self.old.values } }
@@ -114,7 +114,7 @@ impl Operands {
 
     /// The topmost value, or this one in place of nothing.
     #[inline(always)]
-    pub fn top_or<'a>(&'a self, nothing: &'a Value) -> &'a Value
+    pub(crate) fn top_or<'a>(&'a self, nothing: &'a Value) -> &'a Value
         requires { nothing.now ≡ Nothing }
         ensures { result.now ≡ first self.now.values }
     {
@@ -165,7 +165,7 @@ impl Operands {
 
     /// The value below the topmost one, where it is a number.
     #[inline(always)]
-    pub fn number_below(&self) -> Option<i128>
+    pub(crate) fn number_below(&self) -> Option<i128>
         ensures { IfSome result (λ n. second self.now.values ≡ Number n) }
     {
         let length = self.values.len();
@@ -202,7 +202,7 @@ impl Operands {
 
     /// Puts a copy of a value in the place of the topmost one. `false`, and nothing changes, where memory is refused.
     #[inline(never)]
-    pub fn replace_by_copy(&mut self, value: &Value) -> bool
+    pub(crate) fn replace_by_copy(&mut self, value: &Value) -> bool
         requires { 0 < length self.old.values }
         ensures replaced { result ≡ true → self.new ≡ record self.old { values = value.now ∷ drop 1 self.old.values } }
         ensures unchanged { result ≡ false → self.new ≡ self.old }
@@ -216,7 +216,7 @@ impl Operands {
 
     /// Puts a number in the place of the topmost value. One that is a number is no more than overwritten.
     #[inline(always)]
-    pub fn replace_by(&mut self, n: i128)
+    pub(crate) fn replace_by(&mut self, n: i128)
         requires { 0 < length self.old.values }
         ensures { self.new ≡ record self.old { values = Number n ∷ drop 1 self.old.values } }
     {
@@ -229,7 +229,7 @@ impl Operands {
     }
 
     /// Takes so many values off, however many that are.
-    pub fn drop_many(&mut self, count: u128)
+    pub(crate) fn drop_many(&mut self, count: u128)
         ensures { self.new ≡ record self.old { values = drop count self.old.values } }
     {
         let length = self.values.len();
@@ -242,7 +242,7 @@ impl Operands {
 
     /// Takes the newest call's values off.
     #[inline(always)]
-    pub fn drop_all(&mut self)
+    pub(crate) fn drop_all(&mut self)
         ensures { self.new ≡ record self.old { values = [] } }
     {
         self.values.truncate(self.base);
@@ -269,7 +269,7 @@ impl Operands {
 
     /// The newest call is over, and its topmost value, or nothing, is that of its caller. An `Err` is want of memory.
     #[inline(always)]
-    pub fn hand_over(&mut self, base: usize) -> Result<(), AllocError>
+    pub(crate) fn hand_over(&mut self, base: usize) -> Result<(), AllocError>
         ensures { OnOk result (self.new ≡ record { values = first self.old.values ∷ reverse (drop base self.old.below); below = take base self.old.below }) }
     {
         if self.values.len() - self.base == 1 {
@@ -292,7 +292,7 @@ impl Operands {
 
     /// Whether no call has any.
     #[inline(always)]
-    pub fn are_none(&self) -> bool
+    pub(crate) fn are_none(&self) -> bool
         ensures { result ≡ true → self.now ≡ record { values = []; below = [] } }
     {
         self.values.is_empty()

@@ -132,7 +132,11 @@ impl Compiled {
 
     /// The text without its first match; nothing where nothing matches. What a match at its front or at its end leaves shares its memory.
     /// The only fault is want of memory. (POSIX awk, String Functions: sub)
-    pub fn leave_out(&mut self, alloc: Global, text: &Bytes) -> Result<Option<Exchanged>, Halt>
+    pub(crate) fn leave_out(
+        &mut self,
+        alloc: Global,
+        text: &Bytes,
+    ) -> Result<Option<Exchanged>, Halt>
         ensures exchanged { Yields result (exchanged_by false (pattern_in self.old.text) [] text.now) }
         ensures text { self.new.text ≡ self.old.text }
     {

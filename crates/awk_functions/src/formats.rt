@@ -123,7 +123,7 @@ impl Formats {
     }
 
     /// The text that a format gives of the values behind it, as a text that was made. (POSIX awk, String Functions: sprintf)
-    pub fn format_text(&mut self, values: &[Value]) -> Result<Value, Halt>
+    pub(crate) fn format_text(&mut self, values: &[Value]) -> Result<Value, Halt>
         ensures { Yields result (as_text (format_values values.now)) }
     {
         let mut text = mem::replace(&mut self.made, Vec::new(self.alloc));

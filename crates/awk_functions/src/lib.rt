@@ -18,8 +18,6 @@ pub use functions::apply_function;
 pub use line::{
     append, append_each, append_line, concatenate, concatenate_all, join, joined_key, make_line,
 };
-pub use operators::{
-    apply, apply_to_numbers, by_one, change, exit_status, operator_of, raise, relate, truth_value,
-};
+pub use operators::{apply, by_one, change, exit_status, operator_of, raise, relate, truth_value};
 pub use patterns::{PatternOperand, Patterns};
 pub use short::{apply_in_short, relate_numbers};

@@ -98,7 +98,7 @@ fn relates(operator: Operator, order: Ordering) -> bool
 
 /// The number that an operator makes of two numbers. `None` where that is a fault, or where a text is taken as a pattern.
 #[inline(always)]
-pub fn apply_to_numbers(operator: Operator, x: i128, y: i128) -> Option<i128>
+fn apply_to_numbers(operator: Operator, x: i128, y: i128) -> Option<i128>
     ensures { IfSome result (λ n. applied operator (Value.Number x) (Value.Number y) ≡ Ok (Value.Number n)) }
 {
     match operator {

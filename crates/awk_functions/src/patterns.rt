@@ -194,7 +194,7 @@ impl Patterns {
 
     /// The pattern that an operand spells.
     #[inline(always)]
-    pub fn pattern_for(&mut self, operand: PatternOperand) -> Result<&mut Compiled, Halt>
+    pub(crate) fn pattern_for(&mut self, operand: PatternOperand) -> Result<&mut Compiled, Halt>
         ensures { ReadsFor (spelling_of operand.entry) (λ c. c.now.text) result }
     {
         match operand {

@@ -33,7 +33,7 @@ impl Builder {
     ///
     /// Where memory is refused, or places or numbers run out.
     #[cycle(expressions)]
-    pub fn lower_test(
+    pub(crate) fn lower_test(
         &mut self,
         scope: &Scope,
         e: &Expr,

@@ -18,7 +18,12 @@ impl Builder {
     ///
     /// Where memory is refused, or places or numbers run out.
     #[cycle(expressions)]
-    pub fn lower_all(&mut self, scope: &Scope, list: &[Expr], next: u32) -> Result<u32, AllocError>
+    pub(crate) fn lower_all(
+        &mut self,
+        scope: &Scope,
+        list: &[Expr],
+        next: u32,
+    ) -> Result<u32, AllocError>
         requires { Stands next self.old }
         ensures { IfOk result (λ place. Builds scope.now self.old self.new place (EvaluateAll (exprs_of list.now) next)) }
     {
@@ -35,7 +40,12 @@ impl Builder {
     ///
     /// Where memory is refused, or places or numbers run out.
     #[cycle(expressions)]
-    pub fn lower_key(&mut self, scope: &Scope, list: &[Expr], next: u32) -> Result<u32, AllocError>
+    pub(crate) fn lower_key(
+        &mut self,
+        scope: &Scope,
+        list: &[Expr],
+        next: u32,
+    ) -> Result<u32, AllocError>
         requires { Stands next self.old }
         ensures { IfOk result (λ place. Builds scope.now self.old self.new place (EvaluateKey (exprs_of list.now) next)) }
     {

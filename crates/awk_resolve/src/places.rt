@@ -52,7 +52,12 @@ impl Builder {
     ///
     /// Where memory is refused, or places or numbers run out.
     #[cycle(expressions)]
-    pub fn lower_operand(&mut self, scope: &Scope, p: &Expr, next: u32) -> Result<u32, AllocError>
+    pub(crate) fn lower_operand(
+        &mut self,
+        scope: &Scope,
+        p: &Expr,
+        next: u32,
+    ) -> Result<u32, AllocError>
         requires { Stands next self.old }
         ensures { IfOk result (λ place. Builds scope.now self.old self.new place (EvaluateOperand (expr_of p.now) next)) }
     {

@@ -46,7 +46,7 @@ impl Builder {
     /// # Errors
     ///
     /// Where memory is refused, or 2^32 scalars are there.
-    pub fn variable_of(&mut self, scope: &Scope, name: &[u8]) -> Result<Variable, AllocError>
+    pub(crate) fn variable_of(&mut self, scope: &Scope, name: &[u8]) -> Result<Variable, AllocError>
         ensures { IfOk result (λ v. FindsVariable scope.now.kinds.now (parameters_of scope.now) self.old self.new v name.now) }
     {
         if let Some(place) = scope.parameter(name) {

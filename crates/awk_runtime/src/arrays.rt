@@ -43,7 +43,12 @@ impl Runtime {
     }
 
     /// Gives the element at the text of a key a value.
-    pub fn store_element_of(&mut self, array: Array, key: &Value, value: Value) -> Result<(), Halt>
+    pub(crate) fn store_element_of(
+        &mut self,
+        array: Array,
+        key: &Value,
+        value: Value,
+    ) -> Result<(), Halt>
         ensures { Changes (store_element_of array (str_of key.now) value) self.old self.new result }
     {
         let number = self.number_at(array);
@@ -95,7 +100,7 @@ impl Runtime {
     }
 
     /// Empties an array, and gives it the stretches of a text that were found last, at the keys from 1 on.
-    pub fn fill_at(&mut self, array: Array, text: &Bytes) -> Result<(), Halt>
+    pub(crate) fn fill_at(&mut self, array: Array, text: &Bytes) -> Result<(), Halt>
         requires { AreSpansOf text.now self.old.spans.items }
         ensures { Changes (fill_at array (stretches_at text.now self.old.spans.items)) self.old self.new result }
     {
@@ -125,7 +130,7 @@ impl Runtime {
     }
 
     /// The next element of ARGV, if it is below the number of ARGC; one that is absent is empty, and isn't made. (POSIX awk, OPERANDS)
-    pub fn take_argument(&mut self) -> Result<Option<Bytes>, Halt>
+    pub(crate) fn take_argument(&mut self) -> Result<Option<Bytes>, Halt>
         ensures { Changes (take_argument) self.old self.new result }
     {
         let count = number_of(self.specials.special(Special::Argc))?;

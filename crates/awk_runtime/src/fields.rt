@@ -85,7 +85,7 @@ impl Runtime {
     /// Makes the text the record at hand, with the fields that FS and RS of this moment separate. The fault is F1. (POSIX awk,
     /// Regular Expressions; Variables and Special Variables)
     #[inline(always)]
-    pub fn set_record(&mut self, text: Bytes) -> Result<(), Halt>
+    pub(crate) fn set_record(&mut self, text: Bytes) -> Result<(), Halt>
         ensures { Changes (set_record text) self.old self.new result }
     {
         let separator = self.specials.field_separator();
@@ -94,7 +94,7 @@ impl Runtime {
     }
 
     /// The record's text, as a value. The fault is F1.
-    pub fn record_text(&mut self) -> Result<Value, Halt>
+    pub(crate) fn record_text(&mut self) -> Result<Value, Halt>
         ensures { Changes (record_text) self.old self.new result }
     {
         Ok(Value::Input(self.current.text()?))

@@ -55,7 +55,12 @@ impl Runtime {
 
     /// Gives a place a value. The faults are those of the variable, the array or the field. (POSIX awk, Expressions in awk: lvalue)
     #[inline(always)]
-    pub fn store_at(&mut self, place: Place, operand: &Value, value: Value) -> Result<(), Halt>
+    pub(crate) fn store_at(
+        &mut self,
+        place: Place,
+        operand: &Value,
+        value: Value,
+    ) -> Result<(), Halt>
         ensures { Changes (store_at self.old.names.scalars place operand.now value) self.old self.new result }
     {
         match place {

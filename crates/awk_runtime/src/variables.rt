@@ -138,7 +138,7 @@ impl Runtime {
 
     /// Gives a special variable a value. Only FS is refused one: F6, of a text that separates nothing, or F1. (POSIX awk,
     /// Variables and Special Variables)
-    pub fn put_special(&mut self, special: Special, value: Value) -> Result<(), Halt>
+    pub(crate) fn put_special(&mut self, special: Special, value: Value) -> Result<(), Halt>
         ensures { Changes (put_special special value) self.old self.new result }
     {
         self.names.law_of_slots();
@@ -147,7 +147,7 @@ impl Runtime {
     }
 
     /// Raises a special variable's number by 1. The faults are F1 and F3. (POSIX awk, Variables and Special Variables: NR, FNR)
-    pub fn count_in(&mut self, special: Special) -> Result<(), Halt>
+    pub(crate) fn count_in(&mut self, special: Special) -> Result<(), Halt>
         ensures { Changes (count_in special) self.old self.new result }
     {
         let count = raise(self.specials.special(special))?;
@@ -195,7 +195,7 @@ impl Runtime {
 
     /// Begins a main input: FILENAME is its name, and FNR 0; standard input is no longer wanted. (POSIX awk, Variables and Special
     /// Variables)
-    pub fn begin_input(&mut self, name: Bytes) -> Result<(), Halt>
+    pub(crate) fn begin_input(&mut self, name: Bytes) -> Result<(), Halt>
         ensures { Changes (begin_input name) self.old self.new result }
     {
         self.put_special(Special::Filename, Value::Input(name))?;

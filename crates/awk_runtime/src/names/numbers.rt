@@ -9,7 +9,7 @@ use crate::names::ProgramNames;
 
 impl ProgramNames {
     /// How many variables have a slot. None of them is a special one.
-    pub fn scalar_count(&self) -> usize
+    pub(crate) fn scalar_count(&self) -> usize
         ensures count { result ≡ length self.now.scalars }
         ensures own { AreOwn self.now.scalars }
     {
@@ -32,7 +32,7 @@ impl ProgramNames {
     }
 
     /// The number of an array; of a name that is none, how many arrays there are.
-    pub fn array_number(&self, name: &[u8]) -> usize
+    pub(crate) fn array_number(&self, name: &[u8]) -> usize
         ensures { result ≡ number_in self.now.arrays name.now }
     {
         match self.arrays.get_index_of(name) {
