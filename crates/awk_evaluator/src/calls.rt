@@ -3,6 +3,7 @@
 ghost use Rattle.std.specs.Prelude.{◌≡◌, true, [], ◌∷◌, ◌++◌, OnOk, OnErr, IfSome, IfNone};
 
 use crate::entry::Entry;
+use awk_storage::room;
 use std::alloc::{AllocError, Global};
 use std::marker::Model;
 
@@ -32,12 +33,12 @@ impl Calls {
     }
 
     /// A call begins. An `Err`, which is want of memory, changes nothing.
-    #[inline(never)]
+    #[inline(always)]
     pub fn enter(&mut self, entry: Entry) -> Result<(), AllocError>
         ensures entered { OnOk result (self.new ≡ self.old ++ entry ∷ []) }
         ensures unchanged { OnErr result (self.new ≡ self.old) }
     {
-        self.entries.push(entry)?;
+        room::push(&mut self.entries, entry)?;
         Ok(())
     }
 

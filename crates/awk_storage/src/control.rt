@@ -7,6 +7,7 @@ ghost use Rattle.awk_storage.specs.declared.control.TheConstants.{FIRST_BOUND};
 ghost use Rattle.awk_storage.specs.definitions.Control.{Controlled, highest_sum, but_last, bound_of, HasRoom};
 
 use crate::entry::Entry;
+use crate::room;
 use awk_grammar::height::MAX_HEIGHT;
 use std::alloc::{AllocError, Global};
 use std::marker::Model;
@@ -59,7 +60,7 @@ impl Control {
         ensures entered { OnOk result (self.new ≡ record self.old { heights = self.old.heights ++ height ∷ [] }) }
         ensures err { OnErr result (self.new ≡ self.old) }
     {
-        self.heights.push(height)?;
+        room::push(&mut self.heights, height)?;
         self.bound += height as usize;
         Ok(())
     }
@@ -84,7 +85,7 @@ impl Control {
         ensures heights { OnOk result (self.new.heights ≡ self.old.heights) }
         ensures err { OnErr result (self.new ≡ self.old) }
     {
-        self.entries.push(entry)?;
+        room::push(&mut self.entries, entry)?;
         Ok(())
     }
 

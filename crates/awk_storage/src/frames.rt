@@ -8,9 +8,10 @@ ghost use Rattle.awk_storage.specs.support.Frames.{saved_of, newest_count, given
 
 use crate::control::Control;
 use crate::entry::Entry;
+use crate::room;
 use awk_semantics::Local;
 use awk_value::Value;
-use std::alloc::{AllocError, AllocFailed, Global};
+use std::alloc::{AllocError, Global};
 use std::marker::Model;
 
 /// The parameters of the active calls, the newest call first; and what a call that is about to be made is given, in order. A call
@@ -88,11 +89,12 @@ impl Frames {
     }
 
     /// Adds what the call that is about to be made is given for its next parameter.
-    pub fn stage(&mut self, local: Local) -> Result<(), AllocFailed<Local>>
+    #[inline(always)]
+    pub fn stage(&mut self, local: Local) -> Result<(), AllocError>
         ensures staged { OnOk result (self.new ≡ record self.old { staged = self.old.staged ++ local ∷ [] }) }
         ensures unchanged { OnErr result (self.new ≡ self.old) }
     {
-        self.locals.push(local)?;
+        room::push(&mut self.locals, local)?;
         Ok(())
     }
 
@@ -124,7 +126,7 @@ impl Frames {
     }
 
     /// A call of a body of this height is active: its parameters are what it was given. An `Err` changes nothing.
-    #[inline(never)]
+    #[inline(always)]
     pub fn enter(&mut self, height: u64, arrays_before: usize) -> Result<(), AllocError>
         requires high { 0 < height }
         requires low { heights_of self.old.frames + height ≤ highest_sum }

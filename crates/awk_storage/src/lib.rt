@@ -7,6 +7,7 @@ mod entry;
 mod frames;
 mod key;
 mod position;
+pub mod room;
 mod variables;
 
 pub use arrays::Arrays;

@@ -7,6 +7,6 @@ use Rattle.awk_storage.proofs.frames.Frames.stage.Goals as goal
 pub returns-clause-staged : goal.returns-clause-staged
 returns-clause-staged c =
     let b = c.self.inside in
-    ap (λ (l : List Local). frames_from [] l (saved_of b.control.entries b.control.heights)) c.in_ok-push.ensures.items
+    ap (λ (l : List Local). frames_from [] l (saved_of b.control.entries b.control.heights)) c.in_ok-push.ensures.pushed
     ∙ (frames-append [] b.locals.items (c.args.local ∷ []) (saved_of b.control.entries b.control.heights) (omega (arith, c.self.invariant.0.end, c.self.invariant.0.within))
     ∙ ap (λ (v : FramesView). record { frames = v.frames; staged = v.staged ++ c.args.local ∷ [] }) c.self.view_is)
