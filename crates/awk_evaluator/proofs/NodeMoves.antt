@@ -1,6 +1,7 @@
 -- What the move of a node comes to, by what its part came to.
 use Rattle.std.proofs.Common.{◌≡◌, ◌≢◌, ◌<◌, ℕ, length, sym, ap, arith, Bool, true, false, Option, Some, None, Result, Ok, Err, get_or, slice_get, refl, subst}
 use Rattle.std.specs.Global.{Vec}
+use Rattle.std.proofs.lemmas.Option.{slice_get_within}
 use Rattle.awk_value.specs.declared.value.Value.{Value}
 use Rattle.awk_value.specs.declared.value.Value.TheVariants as value
 use Rattle.awk_lex.specs.declared.token.AssignmentOperator.{AssignmentOperator}
@@ -196,6 +197,10 @@ module _ {is_logged : Type 0} {plan : Plan} {from : Start} {at : ℕ} {m m1 : Ma
 
     pub node_before : {i : ℕ} {m' : Machine} {k' : WorldState} → Moves is_logged plan (AtNode node) m1 k1 (move.On i) m' k' → i < at
     node_before x = (placed x).moves.less
+
+    -- which is a place of the plan too
+    pub node_below : {i : ℕ} {m' : Machine} {k' : WorldState} → Moves is_logged plan (AtNode node) m1 k1 (move.On i) m' k' → i < length plan.nodes.items
+    node_below x = let less = node_before x in let low = slice_get_within plan.nodes.items at node (sym is) in omega (arith, less, low)
 
   -- where none is
   pub end_turned : {m' : Machine} (to : Move) → m1.calls ≡ m.calls → None ≡ slice_get plan.nodes.items at → GivesBack value.Nothing m1 to m' → Turns is_logged plan from m k to m' k1

@@ -10,11 +10,12 @@ ghost use Rattle.awk_runtime.specs.Simulation.{SameState};
 ghost use Rattle.awk_resolve.specs.declared.node.ValueNode.TheVariants.{OperateWith, OperateOn, Matches};
 ghost use Rattle.awk_resolve.specs.Nodes.{first};
 ghost use Rattle.awk_evaluator.specs.Moves.{told};
-ghost use Rattle.awk_evaluator.specs.Reading.{Compares};
+ghost use Rattle.awk_evaluator.specs.Reading.{Compares, Decides};
 ghost use Rattle.awk_evaluator.specs.Applied.{HasNumber, StaysAlike};
 ghost use Rattle.awk_evaluator.specs.Quick.{IsAtHand, Popped, Relates, RelatesWith};
 
-use crate::machine::Machine;
+use crate::machine::{Machine, Move};
+use crate::moves::{chosen, toward};
 use awk_functions::{relate, relate_numbers};
 use awk_grammar::tree::BinaryOperator;
 use awk_resolve::node::Operand;
@@ -62,9 +63,27 @@ impl Machine {
         holds
     }
 
-    /// Whether what an operator makes of two operands is true.
+    /// The move to the place that what an operator makes of two operands leads to.
     #[inline(always)]
     pub(crate) fn compare(
+        &mut self,
+        operator: BinaryOperator,
+        left: &Operand,
+        right: &Operand,
+        here: u32,
+        other: u32,
+    ) -> Move
+        ensures { Decides (OperateOn operator left.now right.now) here other self.old result self.new }
+    {
+        if let Some(holds) = self.relate_numbers(operator, left, right) {
+            return Move::On(chosen(holds, here, other));
+        }
+        toward(self.compare_others(operator, left, right), here, other)
+    }
+
+    /// Whether what an operator makes of two operands of any kind is true.
+    #[inline(never)]
+    fn compare_others(
         &mut self,
         operator: BinaryOperator,
         left: &Operand,
@@ -72,9 +91,6 @@ impl Machine {
     ) -> Option<bool>
         ensures { Compares (OperateOn operator left.now right.now) self.old (told result self.new) self.new }
     {
-        if let Some(holds) = self.relate_numbers(operator, left, right) {
-            return Some(holds);
-        }
         match left {
             Operand::Field(_) | Operand::FieldAt(_) => self.compare_field(operator, left, right),
             _ => self.compare_values(operator, left, right),
@@ -99,7 +115,7 @@ impl Machine {
         relate_numbers(infix, m, n)
     }
 
-    /// The same as `compare` of values of any kind.
+    /// The same of values that are no fields.
     #[inline(never)]
     fn compare_values(
         &mut self,
@@ -185,16 +201,22 @@ impl Machine {
         relate(infix, &field, value)
     }
 
-    /// Whether what an operator makes of the topmost value, which is taken off, and an operand is true.
+    /// The move to the place that what an operator makes of the topmost value, which is taken off, and an operand leads to.
     #[inline(always)]
-    pub(crate) fn compare_with(&mut self, operator: BinaryOperator, right: &Operand) -> Option<bool>
-        ensures { Compares (OperateWith operator right.now) self.old (told result self.new) self.new }
+    pub(crate) fn compare_with(
+        &mut self,
+        operator: BinaryOperator,
+        right: &Operand,
+        here: u32,
+        other: u32,
+    ) -> Move
+        ensures { Decides (OperateWith operator right.now) here other self.old result self.new }
     {
         if let Some(holds) = self.relate_number_with(operator, right) {
             self.operands.pop();
-            return Some(holds);
+            return Move::On(chosen(holds, here, other));
         }
-        self.compare_value_with(operator, right)
+        toward(self.compare_value_with(operator, right), here, other)
     }
 
     /// Whether the topmost number and a number at hand are so related.
@@ -210,7 +232,7 @@ impl Machine {
         relate_numbers(infix, m, n)
     }
 
-    /// The same as `compare_with` of values of any kind.
+    /// Whether what an operator makes of the topmost value of any kind, which is taken off, and an operand is true.
     #[inline(never)]
     fn compare_value_with(&mut self, operator: BinaryOperator, right: &Operand) -> Option<bool>
         ensures { Compares (OperateWith operator right.now) self.old (told result self.new) self.new }

@@ -7,7 +7,7 @@ ghost use Rattle.awk_evaluator.specs.Rest.{IsSound, AtPlace};
 ghost use Rattle.awk_evaluator.specs.Moves.{IsIdle, Turns, Steps, Ends, Done, Executes, Keeps, came, told, without_value, truth_in};
 
 use crate::calls::Calls;
-use crate::moves::node_at;
+use crate::moves::{node_at, node_within};
 use crate::operands::Operands;
 use crate::room::Room;
 use crate::watch::Watch;
@@ -166,12 +166,11 @@ impl Machine {
         'moves: loop {
             watch.visit(at);
             match self.make_move(world, plan, node) {
-                Move::On(next) => at = next,
+                Move::On(next) => {
+                    at = next;
+                    node = node_within(plan, at);
+                }
                 other => return other,
-            }
-            match node_at(plan, at) {
-                Some(following) => node = following,
-                None => return self.give_nothing(),
             }
         }
     }

@@ -23,6 +23,15 @@ pub(crate) fn node_at(plan: &Plan, at: u32) -> Option<&Node>
     plan.nodes.get(at as usize)
 }
 
+/// The node at a place that is known to be one of the plan.
+#[inline(always)]
+pub(crate) fn node_within(plan: &Plan, at: u32) -> &Node
+    requires { at < length plan.now.nodes.items }
+    ensures { slice_get plan.now.nodes.items at ≡ Some result.now }
+{
+    &plan.nodes[at as usize]
+}
+
 /// A function of the plan.
 #[inline(always)]
 pub(crate) fn function_of(plan: &Plan, number: u32) -> &Function
@@ -45,7 +54,7 @@ fn head_of(plan: &Plan, number: u32) -> u32
 
 /// The place that a test leads to.
 #[inline(always)]
-fn chosen(holds: bool, here: u32, other: u32) -> u32
+pub(crate) fn chosen(holds: bool, here: u32, other: u32) -> u32
     ensures { result ≡ (if holds then here else other) }
 {
     if holds { here } else { other }
@@ -69,7 +78,7 @@ fn upward(spent: bool, next: u32) -> Move
 
 /// The move to the place that a test leads to, or that a run ends.
 #[inline(always)]
-fn toward(holds: Option<bool>, here: u32, other: u32) -> Move
+pub(crate) fn toward(holds: Option<bool>, here: u32, other: u32) -> Move
     ensures { result ≡ toward holds here other }
 {
     match holds {
@@ -93,10 +102,10 @@ impl Machine {
             Node::Effect(effect, next) => onward(self.perform(world, effect), *next),
             Node::Test(here, other) => Move::On(chosen(self.test(), *here, *other)),
             Node::CompareWith(operator, right, here, other) => {
-                toward(self.compare_with(*operator, right), *here, *other)
+                self.compare_with(*operator, right, *here, *other)
             }
             Node::Compare(operator, left, right, here, other) => {
-                toward(self.compare(*operator, left, right), *here, *other)
+                self.compare(*operator, left, right, *here, *other)
             }
             Node::Match(operand, ere, here, other) => {
                 toward(self.match_operand(operand, *ere), *here, *other)

@@ -1,5 +1,5 @@
 -- What is done with operands that are read where they stand, in any way.
-use Rattle.std.specs.Prelude.{◌≡◌, ℕ, Bool, List, ◌++◌, map, length, reverse, drop, Result, Ok, Err, OnOk}
+use Rattle.std.specs.Prelude.{◌≡◌, ℕ, Bool, Option, List, ◌++◌, map, length, reverse, drop, Result, Ok, Err, OnOk}
 use Rattle.awk_lex.specs.declared.token.AssignmentOperator.{AssignmentOperator}
 use Rattle.awk_lex.specs.declared.token.IncrementOperator.{IncrementOperator}
 use Rattle.awk_value.specs.declared.value.Value.{Value}
@@ -21,7 +21,8 @@ use Rattle.awk_resolve.specs.Nodes.{operand_value, key_value, assign_variable, a
 use Rattle.awk_streams.specs.WorldState.{WorldState}
 use Rattle.awk_runtime.specs.Simulation.{Simulates, Changes}
 use Rattle.awk_evaluator.specs.declared.machine.Machine.{Machine}
-use Rattle.awk_evaluator.specs.support.Moves.{Computes}
+use Rattle.awk_evaluator.specs.declared.machine.Move.{Move}
+use Rattle.awk_evaluator.specs.support.Moves.{Computes, told, toward}
 
 -- what takes no value off the stack, and puts none on it
 pub record Runs (run : Run Value) (m : Machine) (r : Result Value Halt) (m' : Machine) : Type 0 where
@@ -53,6 +54,12 @@ ComparesBy x m (Err h) m' = Computes x m (Err h) m'
 
 pub record Compares (x : ValueNode) (m : Machine) (r : Result Bool Halt) (m' : Machine) : Type 0 where
   pub compares : ComparesBy x m r m'
+
+-- the move to the place that such a test leads to
+pub record Decides (x : ValueNode) (here other : ℕ) (m : Machine) (to : Move) (m' : Machine) : Type 0 where
+  pub holds : Option Bool
+  pub leads : to ≡ toward holds here other
+  pub compares : Compares x m (told holds m') m'
 
 -- a step is spent, and a target gets an operand, or its number and 1, or less 1
 

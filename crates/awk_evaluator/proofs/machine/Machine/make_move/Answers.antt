@@ -20,13 +20,13 @@ pub returns-in-Test : goal.returns-in-Test
 returns-in-Test g c = rw c.in-Test.is (record { ready = ready_same (ap (λ (x : Runtime). x.streams) c.test.ensures.popped.runtime) c.requires.ready; moves = truth_on c.chosen.ensures c.test.ensures.truth c.test.ensures.popped })
 
 pub returns-in-CompareWith : goal.returns-in-CompareWith
-returns-in-CompareWith g c = rw (c.toward.ensures, c.in-CompareWith.is) (record { ready = ready_compared c.compare_with.ensures c.requires.ready; moves = compare_with_moves c.compare_with.result c.compare_with.ensures })
+returns-in-CompareWith g c = rw (c.compare_with.ensures.leads, c.in-CompareWith.is) (record { ready = ready_compared c.compare_with.ensures.compares c.requires.ready; moves = compare_with_moves c.compare_with.ensures.holds c.compare_with.ensures.compares })
 
 pub returns-in-Compare : goal.returns-in-Compare
-returns-in-Compare g c = rw (c.toward-in-Compare.ensures, c.in-Compare.is) (record { ready = ready_compared c.compare.ensures c.requires.ready; moves = compare_moves c.compare.result c.compare.ensures })
+returns-in-Compare g c = rw (c.compare.ensures.leads, c.in-Compare.is) (record { ready = ready_compared c.compare.ensures.compares c.requires.ready; moves = compare_moves c.compare.ensures.holds c.compare.ensures.compares })
 
 pub returns-in-Match : goal.returns-in-Match
-returns-in-Match g c = rw (c.toward-in-Match.ensures, c.in-Match.is) (record { ready = ready_compared c.match_operand.ensures c.requires.ready; moves = match_moves c.match_operand.result c.match_operand.ensures })
+returns-in-Match g c = rw (c.toward.ensures, c.in-Match.is) (record { ready = ready_compared c.match_operand.ensures c.requires.ready; moves = match_moves c.match_operand.result c.match_operand.ensures })
 
 pub returns-in-TestInside : goal.returns-in-TestInside
 returns-in-TestInside g c = rw c.in-TestInside.is (record { ready = c.requires.ready; moves = inside_on c.chosen-in-TestInside.ensures c.is_inside-inside.ensures })

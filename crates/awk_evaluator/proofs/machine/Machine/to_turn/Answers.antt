@@ -1,5 +1,5 @@
-use Rattle.std.proofs.Common.{refl, ◌∙◌}
-use Rattle.awk_evaluator.proofs.NodeMoves.{led_here, node_turned, node_led, node_before, end_turned}
+use Rattle.std.proofs.Common.{refl, sym, ◌∙◌}
+use Rattle.awk_evaluator.proofs.NodeMoves.{led_here, node_turned, node_led, node_before, node_below, end_turned}
 use Rattle.awk_evaluator.proofs.machine.Machine.to_turn.Goals as goal
 
 pub returns-in_default-clause-turns : goal.returns-in_default-clause-turns
@@ -25,10 +25,10 @@ moves-preserved g c =
       ready = c.make_move.ensures.ready;
       leads = node_led c.moves.invariant.leads c.requires.sound c.moves.invariant.here to;
       calls = to.moves.calls ∙ c.moves.invariant.calls;
-      here = c.in-Some-node_at.ensures {u = tt};
+      here = sym c.node_within.ensures;
     }
 
-pub returns-in-None-clause-turns : goal.returns-in-None-clause-turns
-returns-in-None-clause-turns g c =
+pub node_within-requires : goal.node_within-requires
+node_within-requires g c =
     let to = rw c.in-On.is at c.make_move.ensures.moves in
-    end_turned (node_led c.moves.invariant.leads c.requires.sound c.moves.invariant.here to) c.give_nothing-in-None.result (to.moves.calls ∙ c.moves.invariant.calls) (c.in-None.ensures {u = tt}) c.give_nothing-in-None.ensures
+    node_below c.moves.invariant.leads c.requires.sound c.moves.invariant.here to
