@@ -9,6 +9,7 @@ mod effects;
 mod elements;
 pub mod entry;
 mod evaluate;
+mod field_arithmetic;
 mod function_values;
 mod laws;
 mod machine;

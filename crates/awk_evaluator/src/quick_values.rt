@@ -9,7 +9,6 @@ ghost use Rattle.awk_grammar.specs.declared.tree.UnaryOperator.TheVariants.{Minu
 ghost use Rattle.awk_resolve.specs.declared.node.ValueNode.TheVariants.{Put, Operate, OperateWith, OperateOn, Change, ReadField, ReadElement, Contains, Load, Apply, Assign, PreIncrement, PostIncrement, PostIncrementAt};
 ghost use Rattle.awk_storage.specs.Positions.{read_variable};
 ghost use Rattle.awk_runtime.specs.Simulation.{Changes};
-ghost use Rattle.awk_evaluator.specs.Applied.{HasNumber, IsOfNumbers};
 ghost use Rattle.awk_evaluator.specs.Quick.{IsAtHand, Puts, Pushed};
 
 use crate::machine::Machine;
@@ -29,18 +28,6 @@ fn length_at_hand(value: &Value) -> Option<i128>
         Value::Text(text) => Some(text.len() as i128),
         Value::Input(text) => Some(text.len() as i128),
         Value::Nothing | Value::Number(_) => None,
-    }
-}
-
-/// Whether an operator makes of two values what it makes of their numbers.
-#[inline(always)]
-fn is_arithmetic(operator: Operator) -> bool
-    ensures { result ≡ true → IsOfNumbers operator }
-{
-    match operator {
-        Operator::Plus | Operator::Minus | Operator::Times => true,
-        Operator::Divide | Operator::Remainder | Operator::Power => true,
-        _ => false,
     }
 }
 
@@ -266,44 +253,6 @@ impl Machine {
             return false;
         };
         self.put(z)
-    }
-
-    /// The same of operands of which one is a field.
-    #[inline(never)]
-    fn put_operated_on_fields(
-        &mut self,
-        operator: Operator,
-        left: &Operand,
-        right: &Operand,
-    ) -> bool
-        ensures puts { result ≡ true → Puts (OperateOn (Infix operator) left.now right.now) self.old self.new }
-        ensures kept { result ≡ false → self.new ≡ self.old }
-    {
-        if !is_arithmetic(operator) {
-            return false;
-        }
-        let Some(m) = self.number_read(left) else {
-            return false;
-        };
-        let Some(n) = self.number_read(right) else {
-            return false;
-        };
-        let Some(z) = apply_in_short(operator, m, n) else {
-            return false;
-        };
-        self.put(z)
-    }
-
-    /// The number of an operand that is a number, or a field that stands in the record.
-    #[inline(always)]
-    fn number_read(&mut self, operand: &Operand) -> Option<i128>
-        ensures some { IfSome result (λ n. HasNumber operand.now n self.old) }
-        ensures same { self.new ≡ self.old }
-    {
-        match self.number_at(operand) {
-            Some(n) => Some(n),
-            None => self.number_at_field(operand),
-        }
     }
 
     /// Puts the texts of two operands, one behind the other, on the stack.
