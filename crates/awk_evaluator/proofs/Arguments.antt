@@ -1,7 +1,9 @@
 -- The arguments of a call, one after the other.
-use Rattle.std.proofs.Common.{◌≡◌, ℕ, zero, suc, ◌+◌, ◌≤◌, List, [], ◌∷◌, length, drop, slice_get, Some, None, Result, Ok, Err, refl, sym, ap, ◌∙◌, arith, append_assoc, append-nil}
+use Rattle.std.proofs.Common.{◌≡◌, ◌==◌, true, ℕ, ℤ, zero, suc, ◌+◌, ◌≤◌, List, [], ◌∷◌, length, drop, slice_get, Some, None, Result, Ok, Err, refl, sym, ap, ◌∙◌, arith, append_assoc, append-nil}
+use Rattle.std.proofs.lemmas.Bool.{eqb-true}
 use Rattle.std.proofs.lemmas.List.{drop-drop}
 use Rattle.awk_value.specs.declared.value.Value.{Value}
+use Rattle.awk_value.specs.declared.value.Value.TheVariants as value
 use Rattle.awk_semantics.specs.declared.halt.Halt.{Halt}
 use Rattle.awk_semantics.specs.declared.local.Local.{Local}
 use Rattle.awk_semantics.specs.declared.local.Local.TheVariants as local
@@ -10,7 +12,7 @@ use Rattle.awk_storage.specs.declared.position.Array.TheVariants as array
 use Rattle.awk_storage.specs.support.Frames.{FramesView, newest_of}
 use Rattle.awk_resolve.specs.declared.node.ArgumentForm.{ArgumentForm}
 use Rattle.awk_resolve.specs.declared.node.ArgumentForm.TheVariants as form
-use Rattle.awk_resolve.specs.Nodes.{first, behind_form, taken, values_among}
+use Rattle.awk_resolve.specs.Nodes.{first, second, behind_form, taken, values_among}
 use Rattle.awk_runtime.specs.declared.runtime.Runtime.{Runtime}
 use Rattle.awk_runtime.specs.Calling.{number_of_kept, kept_number, with_given, Gives}
 use Rattle.awk_evaluator.specs.declared.machine.Machine.{Machine}
@@ -119,3 +121,51 @@ top_given {m = m} {m' = m'} {r = Err h} g operands calls = record {
   streams = ap (λ (x : Runtime). x.streams) g.unchanged;
   memory = g.memory;
 }
+
+-- two numbers are given
+
+two_kept : (vs : List Value) (calls : FramesView) {a b : ℤ} → second vs ≡ value.Number a → first vs ≡ value.Number b → kept_all (form.Value ∷ form.Value ∷ []) (taken 2 vs) calls ≡ local.Value (value.Number a) ∷ local.Value (value.Number b) ∷ []
+two_kept [] calls left right = cc
+two_kept (v ∷ []) calls left right = cc
+two_kept (v ∷ w ∷ vs) calls {a = a} left right = ap (λ (x : Value). local.Value x ∷ local.Value v ∷ []) left ∙ ap (λ (x : Value). local.Value (value.Number a) ∷ local.Value x ∷ []) right
+
+pub two_given : {m m' : Machine} {m1 : Runtime} {a b : ℤ} {r : Result (Unit {0}) Halt} → second m.operands.values ≡ value.Number a → first m.operands.values ≡ value.Number b → m1 ≡ with_given (local.Value (value.Number a)) m.runtime
+    → Gives (local.Value (value.Number b)) m1 m'.runtime r → m'.operands ≡ record m.operands { values = drop 1 (drop 1 m.operands.values) } → m'.calls ≡ m.calls → GivesAll (form.Value ∷ form.Value ∷ []) m r m'
+two_given {m = m} {m' = m'} {m1 = m1} {a = a} {b = b} {r = Ok u} left right one g operands calls =
+    let x = local.Value (value.Number a) in
+    let y = local.Value (value.Number b) in
+    all_given 2 refl
+    (g.given ∙ ap (λ (k : Runtime). with_given y k) one ∙ sym (with_more x (y ∷ []) m.runtime) ∙ ap (λ (ls : List Local). with_all ls m.runtime) (sym (two_kept m.operands.values m.runtime.frames left right)))
+    (operands ∙ ap (λ (vs : List Value). record m.operands { values = vs }) (drop-drop 1 1 m.operands.values)) calls
+two_given {m = m} {m' = m'} {m1 = m1} {r = Err h} left right one g operands calls =
+    let same = g.unchanged ∙ one in
+    record {
+      given = tt;
+      operands = tt;
+      calls = tt;
+      names = ap (λ (x : Runtime). x.names) same;
+      steps = (let e = ap (λ (x : Runtime). x.steps) same in omega (arith, e));
+      streams = ap (λ (x : Runtime). x.streams) same;
+      memory = g.memory;
+    }
+
+-- the first of two is refused
+pub first_refused : {fs : List ArgumentForm} {m m' : Machine} {l : Local} {h : Halt} → Gives l m.runtime m'.runtime (Err h) → GivesAll fs m (Err h) m'
+first_refused g = record {
+  given = tt;
+  operands = tt;
+  calls = tt;
+  names = ap (λ (x : Runtime). x.names) g.unchanged;
+  steps = (let e = ap (λ (x : Runtime). x.steps) g.unchanged in omega (arith, e));
+  streams = ap (λ (x : Runtime). x.streams) g.unchanged;
+  memory = g.memory;
+}
+
+-- nothing is given
+
+pub no_form : (fs : List ArgumentForm) → (length fs == 0) ≡ true → fs ≡ []
+no_form [] e = refl
+no_form (f ∷ fs) e = let none = eqb-true (length (f ∷ fs)) 0 e in absurd (omega (arith, none))
+
+pub nothing_given : {m : Machine} → GivesAll [] m (Ok tt) m
+nothing_given {m = m} = all_given 0 refl (ap (λ (staged : List Local). record m.runtime { frames = record { frames = m.runtime.frames.frames; staged = staged } }) (sym (append-nil m.runtime.frames.staged))) refl refl

@@ -10,6 +10,7 @@ use crate::machine::Machine;
 use awk_resolve::Function;
 use awk_resolve::node::ArgumentForm;
 use awk_semantics::Halt;
+use awk_value::Value;
 
 /// How an argument is given.
 #[inline(always)]
@@ -55,6 +56,17 @@ fn is_one_value(forms: &[ArgumentForm]) -> bool
     }
 }
 
+/// Whether two arguments are given, which are values.
+#[inline(always)]
+fn are_two_values(forms: &[ArgumentForm]) -> bool
+    ensures { result ≡ true → forms.now ≡ ArgumentForm.Value ∷ ArgumentForm.Value ∷ [] }
+{
+    match forms {
+        [ArgumentForm::Value, ArgumentForm::Value] => true,
+        _ => false,
+    }
+}
+
 impl Machine {
     /// Begins a call of a function: its height is checked, a step is spent, and its parameters are what the topmost values and the
     /// arrays give, or new. Gives the place of its body. (POSIX awk, User-Defined Functions)
@@ -86,6 +98,12 @@ impl Machine {
         if is_one_value(forms) {
             return self.give_top();
         }
+        if forms.is_empty() {
+            return Ok(());
+        }
+        if are_two_values(forms) {
+            return self.give_two(forms);
+        }
         self.give_each(forms)
     }
 
@@ -94,8 +112,30 @@ impl Machine {
     fn give_top(&mut self) -> Result<(), Halt>
         ensures { GivesAll (ArgumentForm.Value ∷ []) self.old result self.new }
     {
+        if let Some(n) = self.operands.number() {
+            self.operands.pop();
+            return self.runtime.give_value(Value::Number(n));
+        }
         let value = self.operands.pop();
         self.runtime.give_value(value)
+    }
+
+    /// The same of two values. Numbers are given as they are.
+    #[inline(always)]
+    fn give_two(&mut self, forms: &[ArgumentForm]) -> Result<(), Halt>
+        requires { forms.now ≡ ArgumentForm.Value ∷ ArgumentForm.Value ∷ [] }
+        ensures { GivesAll forms.now self.old result self.new }
+    {
+        let Some(left) = self.operands.number_below() else {
+            return self.give_each(forms);
+        };
+        let Some(right) = self.operands.number() else {
+            return self.give_each(forms);
+        };
+        self.operands.pop();
+        self.operands.pop();
+        self.runtime.give_value(Value::Number(left))?;
+        self.runtime.give_value(Value::Number(right))
     }
 
     /// The same as `give_arguments`, one after the other.

@@ -39,11 +39,11 @@ impl Machine {
         ensures ready { IsReady W.is_logged (W.state world.new) self.new.runtime.streams }
         ensures moves { Moves W.is_logged plan.now (AtNode (ValueAt node.now next)) self.old (W.state world.old) result self.new (W.state world.new) }
     {
-        if self.put_quickly(node) {
-            return Move::On(next);
-        }
         if let ValueNode::Call(function, forms) = node {
             return self.put_call(world, plan, *function, forms, next);
+        }
+        if self.put_quickly(node) {
+            return Move::On(next);
         }
         if let ValueNode::Operate(BinaryOperator::Infix(Operator::Matches)) = node {
             return self.put_match(world, plan, node, next);
@@ -75,7 +75,7 @@ impl Machine {
     }
 
     /// Begins a call, and goes on in the body of its function.
-    #[inline(never)]
+    #[inline(always)]
     fn put_call<W: World>(
         &mut self,
         world: &mut W,

@@ -25,10 +25,10 @@ moves-preserved g c =
       ready = c.make_move.ensures.ready;
       leads = node_led c.moves.invariant.leads c.requires.sound c.moves.invariant.here to;
       calls = to.moves.calls ∙ c.moves.invariant.calls;
-      here = sym c.node_within.ensures;
+      here = sym c.node_within-node.ensures;
     }
 
-pub node_within-requires : goal.node_within-requires
-node_within-requires g c =
+pub node_within-node-requires : goal.node_within-node-requires
+node_within-node-requires g c =
     let to = rw c.in-On.is at c.make_move.ensures.moves in
     node_below c.moves.invariant.leads c.requires.sound c.moves.invariant.here to
