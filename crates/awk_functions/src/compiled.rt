@@ -132,6 +132,7 @@ impl Compiled {
 
     /// The text without its first match; nothing where nothing matches. What a match at its front or at its end leaves shares its memory.
     /// The only fault is want of memory. (POSIX awk, String Functions: sub)
+    #[inline(never)]
     pub(crate) fn leave_out(
         &mut self,
         alloc: Global,

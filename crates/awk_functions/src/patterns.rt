@@ -295,7 +295,26 @@ impl Patterns {
 
     /// A value's text with its first match exchanged, or with `all` each match, and how many that are; nothing where nothing
     /// matches. The faults are F1 and F6. (POSIX awk, String Functions: sub, gsub)
+    #[inline(always)]
     pub fn exchange(
+        &mut self,
+        operand: PatternOperand,
+        replacement: &Value,
+        text: &Value,
+        all: bool,
+    ) -> Result<Option<Exchanged>, Halt>
+        ensures { Yields result (exchanged_by all (pattern_in (spelling_of operand.entry))
+            (str_of replacement.now) (str_of text.now)) }
+    {
+        if let Value::Text(text) | Value::Input(text) = text {
+            return self.exchange_in(operand, replacement, text, all);
+        }
+        self.exchange_written(operand, replacement, text, all)
+    }
+
+    // The same of any value, whose text is written first where it is a number.
+    #[inline(never)]
+    fn exchange_written(
         &mut self,
         operand: PatternOperand,
         replacement: &Value,
@@ -307,16 +326,34 @@ impl Patterns {
     {
         let alloc = self.alloc;
         let pattern = self.pattern_for(operand)?;
-        if !all && is_empty(replacement) {
-            if let Value::Text(text) | Value::Input(text) = text {
-                return pattern.leave_out(alloc, text);
-            }
-        }
         let mut replacement_digits = Buffer::new();
         let mut text_digits = Buffer::new();
-        let replacement = text_in(replacement, &mut replacement_digits);
+        let replacement = bytes_in(replacement, &mut replacement_digits);
         let text = text_in(text, &mut text_digits);
         pattern.exchange(alloc, replacement, text, all)
+    }
+
+    /// The same of a text, which is searched where it stands. What is left of it where a first match at its front or at its end is left
+    /// out shares its memory.
+    #[inline(always)]
+    pub fn exchange_in(
+        &mut self,
+        operand: PatternOperand,
+        replacement: &Value,
+        text: &Bytes,
+        all: bool,
+    ) -> Result<Option<Exchanged>, Halt>
+        ensures { Yields result (exchanged_by all (pattern_in (spelling_of operand.entry))
+            (str_of replacement.now) text.now) }
+    {
+        let alloc = self.alloc;
+        let pattern = self.pattern_for(operand)?;
+        if !all && is_empty(replacement) {
+            return pattern.leave_out(alloc, text);
+        }
+        let mut digits = Buffer::new();
+        let replacement = bytes_in(replacement, &mut digits);
+        pattern.exchange(alloc, replacement, text.as_slice(), all)
     }
 
     // What separates fields where FS is this text. It is made where it isn't the last one.
