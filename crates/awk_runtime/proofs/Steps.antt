@@ -59,6 +59,16 @@ pub assoc_at : {A B C : Type 0} (m : Run A) (f : A → Run B) (g : B → Run C) 
 unfolding ◌>>=◌
 assoc_at m f g s = go_assoc (m s).result (m s).state (m s).effects f g
 
+-- what goes on the same way
+go_same : {A B : Type 0} (r : Result A Halt) (t : State) (effects : List _) (f g : A → Run B) → ((a : A) (u : State) → f a u ≡ g a u) → go_on r t effects f ≡ go_on r t effects g
+unfolding go_on
+go_same (Ok a) t effects f g e = ap (λ (o : Out _). record { result = o.result; state = o.state; effects = effects ++ o.effects }) (e a t)
+go_same (Err h) t effects f g e = refl
+
+pub later_same : {A B : Type 0} (m : Run A) (f g : A → Run B) (s : State) → ((a : A) (u : State) → f a u ≡ g a u) → (m >>= f) s ≡ (m >>= g) s
+unfolding ◌>>=◌
+later_same m f g s e = go_same (m s).result (m s).state (m s).effects f g e
+
 pub same_changes : {A : Type 0} {old new : Runtime} {r : Result A Halt} (x y : Run A) → ((s : State) → OwnRelation old s → x s ≡ y s) → Changes y old new r → Changes x old new r
 same_changes {old = old} {new = new} {r = r} x y e d = record {
   steps = d.steps;

@@ -35,10 +35,9 @@ use Rattle.awk_functions.specs.support.Written.{Writes}
 use Rattle.awk_runtime.specs.declared.runtime.Runtime.{Runtime}
 use Rattle.awk_runtime.specs.support.Simulation.{Changes, SameState}
 use Rattle.awk_runtime.specs.support.Naming.{Naming}
-use Rattle.awk_runtime.specs.support.Spelled.{spelled, record_tested, as_truth, substitute_in_record, pieces_by, with_pieces}
-use Rattle.awk_runtime.specs.declared.texts.PatternSource.{PatternSource}
+use Rattle.awk_runtime.specs.support.Spelled.{record_tested, as_truth, exchange_read, pieces_by, with_pieces}
 use Rattle.awk_runtime.proofs.Composition.{then_changes, ends_changes, lift_changes, memory_changes}
-use Rattle.awk_runtime.proofs.Steps.{still, reads_changes, same_changes}
+use Rattle.awk_runtime.proofs.Steps.{assoc_at, later_same, still, reads_changes, same_changes}
 
 -- results
 
@@ -229,6 +228,19 @@ pub split_gives : (array : Array) (text : List ℕ) (m : Run Separator) {old mid
     → Changes (split_with array text m) old new (Ok (value.Number (pos (length pieces))))
 split_gives array text m {new = new} p q = same_changes _ _ (λ s h. split_found array text m s) (then_changes (split_at array) p (then_changes _ q (lift_changes _ new refl)))
 
+-- what is read, with matches exchanged
+
+module _ {read : Run Value} (all : Bool) (replacement : List ℕ) where
+  pub exchanged_there : {old mid new : Runtime} {v : Value} {c : Result (Option Exchanged) Halt} {spelling pattern : List ℕ} → Changes read old mid (Ok v) → spelling ≡ pattern → SameState mid new → Yields c (exchanged_by all (pattern_in spelling) replacement (str_of v)) → Changes (exchange_read read all pattern replacement) old new c
+  exchanged_there {v = v} p is same e = then_changes _ p (lift_spelled (λ t. exchanged_by all (pattern_in t) replacement (str_of v)) is same e)
+
+  pub exchanged_later : (pattern : Naming → List ℕ) (names : Naming) {old mid new : Runtime} {v : Value} {c : Result (Option Exchanged) Halt} → mid.names ≡ names → Changes read old mid (Ok v) → Changes (lift (exchanged_by all (pattern_in (pattern mid.names)) replacement (str_of v))) mid new c
+      → Changes (exchange_read read all (pattern names) replacement) old new c
+  exchanged_later pattern names {mid = mid} {new = new} {v = v} {c = c} same p q = then_changes _ p (subst (λ (n : Naming). Changes (lift (exchanged_by all (pattern_in (pattern n)) replacement (str_of v))) mid new c) same q)
+
+  pub not_exchanged : (pattern : List ℕ) {old new : Runtime} {h : Halt} → Changes read old new (Err h) → Changes (exchange_read read all pattern replacement) old new (Err h)
+  not_exchanged pattern p = ends_changes _ p
+
 -- substitutions
 
 module _ (names : List (List ℕ)) (at : Place) (operand : Value) where
@@ -241,35 +253,33 @@ module _ (names : List (List ℕ)) (at : Place) (operand : Value) where
   assigned_by zero text = refl
   assigned_by (suc n) text = refl
 
-  module _ (all : Bool) (replacement : List ℕ) (old_value : Value) where
-    exchanged_on : (p : Result Tree Halt) (s : State) → (lift p >>= λ t. assign_exchange_at names at operand (exchanged all t replacement (str_of old_value)).count (exchanged all t replacement (str_of old_value)).text) s ≡ (lift (exchanged_by all p replacement (str_of old_value)) >>= assign_made) s
+  module _ (all : Bool) (replacement : List ℕ) where
+    exchanged_on : (old_value : Value) (p : Result Tree Halt) (s : State) → (lift p >>= λ t. assign_exchange_at names at operand (exchanged all t replacement (str_of old_value)).count (exchanged all t replacement (str_of old_value)).text) s ≡ (lift (exchanged_by all p replacement (str_of old_value)) >>= assign_made) s
     unfolding lift ◌>>=◌ go_on
-    exchanged_on (Ok t) s = ap (λ (run : Run Value). record { result = (run s).result; state = (run s).state; effects = [] ++ (run s).effects }) (assigned_by (exchanged all t replacement (str_of old_value)).count (exchanged all t replacement (str_of old_value)).text)
-    exchanged_on (Err h) s = refl
+    exchanged_on old_value (Ok t) s = ap (λ (run : Run Value). record { result = (run s).result; state = (run s).state; effects = [] ++ (run s).effects }) (assigned_by (exchanged all t replacement (str_of old_value)).count (exchanged all t replacement (str_of old_value)).text)
+    exchanged_on old_value (Err h) s = refl
 
-    module _ (pattern : List ℕ) where
-      abbrev pub Exchanges : Runtime → Runtime → Result (Option Exchanged) Halt → Type 0
-      Exchanges = Changes (lift (exchanged_by all (pattern_in pattern) replacement (str_of old_value)))
+    -- in what was read, and in what is still to be read
+    pub in_value : (old_value : Value) (pattern : List ℕ) (s : State) → substitute_at names all pattern replacement at operand old_value s ≡ (lift (exchanged_by all (pattern_in pattern) replacement (str_of old_value)) >>= assign_made) s
+    in_value old_value pattern s = exchanged_on old_value (pattern_in pattern) s
 
-      pub substitute_ends : {old new : Runtime} {h : Halt} → Exchanges old new (Err h) → Changes (substitute_at names all pattern replacement at operand old_value) old new (Err h)
-      substitute_ends p = same_changes _ _ (λ s h. exchanged_on (pattern_in pattern) s) (ends_changes assign_made p)
+    pub in_read : (read : Run Value) (pattern : List ℕ) (s : State) → (read >>= λ old. substitute_at names all pattern replacement at operand old) s ≡ (exchange_read read all pattern replacement >>= assign_made) s
+    in_read read pattern s =
+        later_same read _ _ s (λ old t. in_value old pattern t)
+        ∙ sym (assoc_at read (λ old. lift (exchanged_by all (pattern_in pattern) replacement (str_of old))) assign_made s)
 
-      pub substitute_nothing : {old new : Runtime} → Exchanges old new (Ok None) → Changes (substitute_at names all pattern replacement at operand old_value) old new (Ok (value.Number (pos 0)))
-      substitute_nothing {new = new} p = same_changes _ _ (λ s h. exchanged_on (pattern_in pattern) s) (then_changes assign_made p (lift_changes _ new refl))
+  module _ {run : Run (Option Exchanged)} {whole : Run Value} (is : (s : State) → whole s ≡ (run >>= assign_made) s) where
+    pub substitute_ends : {old new : Runtime} {h : Halt} → Changes run old new (Err h) → Changes whole old new (Err h)
+    substitute_ends p = same_changes _ _ (λ s h. is s) (ends_changes assign_made p)
 
-      named : {old mid new : Runtime} {c : Result (Option Exchanged) Halt} {r : Result (Unit {0}) Halt} (v : Value) → old.names.scalars ≡ names → Exchanges old mid c → Changes (store_at mid.names.scalars at operand v) mid new r → Changes (store_at names at operand v) mid new r
-      named {mid = mid} {new = new} {r = r} v is p q = subst (λ (l : List (List ℕ)). Changes (store_at l at operand v) mid new r) (ap (λ (n : Naming). n.scalars) p.names ∙ is) q
+    pub substitute_nothing : {old new : Runtime} → Changes run old new (Ok None) → Changes whole old new (Ok (value.Number (pos 0)))
+    substitute_nothing {new = new} p = same_changes _ _ (λ s h. is s) (then_changes assign_made p (lift_changes _ new refl))
 
-      pub substitute_ends_later : {old mid new : Runtime} {made : Exchanged} {h : Halt} → old.names.scalars ≡ names → Exchanges old mid (Ok (Some made)) → Changes (store_at mid.names.scalars at operand (value.Text made.text)) mid new (Err h) → Changes (substitute_at names all pattern replacement at operand old_value) old new (Err h)
-      substitute_ends_later {made = made} is p q = same_changes _ _ (λ s h. exchanged_on (pattern_in pattern) s) (then_changes assign_made p (ends_changes _ (named (value.Text made.text) is p q)))
+    named : {old mid new : Runtime} {c : Result (Option Exchanged) Halt} {r : Result (Unit {0}) Halt} (v : Value) → old.names.scalars ≡ names → Changes run old mid c → Changes (store_at mid.names.scalars at operand v) mid new r → Changes (store_at names at operand v) mid new r
+    named {mid = mid} {new = new} {r = r} v is p q = subst (λ (l : List (List ℕ)). Changes (store_at l at operand v) mid new r) (ap (λ (n : Naming). n.scalars) p.names ∙ is) q
 
-      pub substitute_gives : {old mid new : Runtime} {made : Exchanged} → old.names.scalars ≡ names → Exchanges old mid (Ok (Some made)) → Changes (store_at mid.names.scalars at operand (value.Text made.text)) mid new (Ok tt) → Changes (substitute_at names all pattern replacement at operand old_value) old new (Ok (value.Number (pos made.count)))
-      substitute_gives {new = new} {made = made} is p q = same_changes _ _ (λ s h. exchanged_on (pattern_in pattern) s) (then_changes assign_made p (then_changes _ (named (value.Text made.text) is p q) (lift_changes _ new refl)))
+    pub substitute_ends_later : {old mid new : Runtime} {made : Exchanged} {h : Halt} → old.names.scalars ≡ names → Changes run old mid (Ok (Some made)) → Changes (store_at mid.names.scalars at operand (value.Text made.text)) mid new (Err h) → Changes whole old new (Err h)
+    substitute_ends_later {made = made} same p q = same_changes _ _ (λ s h. is s) (then_changes assign_made p (ends_changes _ (named (value.Text made.text) same p q)))
 
-pub in_record : (names : Naming) (all : Bool) (pattern : PatternSource) (replacement : List ℕ) {old mid new : Runtime} {v : Value} {r : Result Value Halt} → mid.names ≡ names → Changes record_text old mid (Ok v)
-    → Changes (substitute_at mid.names.scalars all (spelled mid.names pattern) replacement place.Field (value.Number (pos 0)) v) mid new r → Changes (substitute_in_record names.scalars all (spelled names pattern) replacement) old new r
-in_record names all pattern replacement {mid = mid} {new = new} {v = v} {r = r} same p q =
-    then_changes _ p (subst (λ (n : Naming). Changes (substitute_at n.scalars all (spelled n pattern) replacement place.Field (value.Number (pos 0)) v) mid new r) same q)
-
-pub in_record_ends : (names : Naming) (all : Bool) (pattern : PatternSource) (replacement : List ℕ) {old new : Runtime} {h : Halt} → Changes record_text old new (Err h) → Changes (substitute_in_record names.scalars all (spelled names pattern) replacement) old new (Err h)
-in_record_ends names all pattern replacement p = ends_changes _ p
+    pub substitute_gives : {old mid new : Runtime} {made : Exchanged} → old.names.scalars ≡ names → Changes run old mid (Ok (Some made)) → Changes (store_at mid.names.scalars at operand (value.Text made.text)) mid new (Ok tt) → Changes whole old new (Ok (value.Number (pos made.count)))
+    substitute_gives {new = new} {made = made} same p q = same_changes _ _ (λ s h. is s) (then_changes assign_made p (then_changes _ (named (value.Text made.text) same p q) (lift_changes _ new refl)))

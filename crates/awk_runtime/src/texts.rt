@@ -6,16 +6,17 @@ ghost use Rattle.awk_value.specs.Values.{str_of};
 ghost use Rattle.awk_value.specs.declared.value.Value.TheVariants.{Number, Text};
 ghost use Rattle.awk_text.specs.Pieces.{stretches_at, AreSpansOf};
 ghost use Rattle.awk_semantics.specs.State.{lift};
+ghost use Rattle.awk_semantics.specs.Primitives.{record_text};
 ghost use Rattle.awk_semantics.specs.Operators.{applied, pattern_in};
 ghost use Rattle.awk_semantics.specs.BuiltIns.{applied_all, note_match};
 ghost use Rattle.awk_storage.specs.Forms.{match_in, split_with, substitute_at};
-ghost use Rattle.awk_storage.specs.Positions.{store_at};
+ghost use Rattle.awk_storage.specs.Positions.{read_variable, store_at};
 ghost use Rattle.awk_functions.specs.definitions.Matched.{found, exchanged_by};
 ghost use Rattle.awk_functions.specs.definitions.Spelling.{spelling_of, separator_for};
 ghost use Rattle.awk_runtime.specs.support.Naming.{ere_at};
 ghost use Rattle.awk_runtime.specs.support.Simulation.{Changes};
 ghost use Rattle.awk_runtime.specs.support.Spelled.{spelled, separator_spelled, separation, pieces_by, with_pieces};
-ghost use Rattle.awk_runtime.specs.support.Spelled.{record_tested, as_truth, substitute_in_record};
+ghost use Rattle.awk_runtime.specs.support.Spelled.{record_tested, as_truth, exchange_read, substitute_in_variable, substitute_in_record};
 
 use crate::names::ProgramNames;
 use crate::runtime::Runtime;
@@ -25,8 +26,8 @@ use awk_functions::{
 };
 use awk_kinds::Special;
 use awk_lex::token::{BuiltIn, Operator};
-use awk_semantics::Halt;
-use awk_storage::{Array, Place};
+use awk_semantics::{Halt, Local};
+use awk_storage::{Array, Place, Variable};
 use awk_text::Span;
 use awk_value::{Bytes, Value, text_of};
 
@@ -195,6 +196,7 @@ impl Runtime {
     }
 
     // A value's text with its first match exchanged, or with `all` each match, and how many that are.
+    #[inline(never)]
     fn exchange(
         &mut self,
         all: bool,
@@ -242,14 +244,97 @@ impl Runtime {
         ensures { Changes (substitute_in_record self.old.names.scalars all (spelled self.old.names pattern.entry)
             (str_of replacement.now)) self.old self.new result }
     {
-        let old = self.record_text()?;
-        match self.exchange(all, pattern, replacement, &old)? {
+        match self.exchange_in_record(all, pattern, replacement)? {
             None => Ok(Value::Number(0)),
             Some(exchanged) => {
                 self.store_record(exchanged.text)?;
                 Ok(Value::Number(exchanged.count as i128))
             }
         }
+    }
+
+    // The record's text with its first match exchanged, or with `all` each match, and how many that are.
+    fn exchange_in_record(
+        &mut self,
+        all: bool,
+        pattern: PatternSource,
+        replacement: &Value,
+    ) -> Result<Option<Exchanged>, Halt>
+        ensures { Changes (exchange_read record_text all (spelled self.old.names pattern.entry) (str_of replacement.now)) self.old self.new result }
+    {
+        if let Some(text) = self.current.text_at_hand() {
+            let pattern = operand(&self.names, pattern);
+            return self.patterns.exchange_in(pattern, replacement, text, all);
+        }
+        let old = self.record_text()?;
+        self.exchange(all, pattern, replacement, &old)
+    }
+
+    /// The same in a variable, by an ERE of the program. A text is searched where the variable holds it. (POSIX awk, String Functions:
+    /// sub, gsub)
+    #[inline(always)]
+    pub fn substitute_in_variable(
+        &mut self,
+        all: bool,
+        ere: u32,
+        replacement: &Value,
+        variable: Variable,
+    ) -> Result<Value, Halt>
+        ensures { Changes (substitute_in_variable self.old.names.scalars all (ere_at self.old.names ere) (str_of replacement.now) variable)
+            self.old self.new result }
+    {
+        match self.exchange_in_variable(all, ere, replacement, variable)? {
+            None => Ok(Value::Number(0)),
+            Some(exchanged) => {
+                self.put_variable(variable, Value::Text(exchanged.text))?;
+                Ok(Value::Number(exchanged.count as i128))
+            }
+        }
+    }
+
+    // A variable's text with its first match exchanged, or with `all` each match, and how many that are.
+    #[inline(always)]
+    fn exchange_in_variable(
+        &mut self,
+        all: bool,
+        ere: u32,
+        replacement: &Value,
+        variable: Variable,
+    ) -> Result<Option<Exchanged>, Halt>
+        ensures { Changes (exchange_read (read_variable self.old.names.scalars variable) all (ere_at self.old.names ere) (str_of replacement.now))
+            self.old self.new result }
+    {
+        self.names.law_of_slots();
+        let pattern = operand(&self.names, PatternSource::Ere(ere));
+        match variable {
+            Variable::Global(slot) => match self.globals.get(slot as usize) {
+                Some(old) => self.patterns.exchange(pattern, replacement, old, all),
+                None => self.exchange_in_copy(all, ere, replacement, variable),
+            },
+            Variable::Local(index) => match self.frames.local(index as usize) {
+                Some(Local::Value(old)) => self.patterns.exchange(pattern, replacement, old, all),
+                _ => self.exchange_in_copy(all, ere, replacement, variable),
+            },
+            Variable::Special(_) | Variable::FieldCount => {
+                self.exchange_in_copy(all, ere, replacement, variable)
+            }
+        }
+    }
+
+    // The same in a copy of what the variable holds.
+    #[inline(never)]
+    fn exchange_in_copy(
+        &mut self,
+        all: bool,
+        ere: u32,
+        replacement: &Value,
+        variable: Variable,
+    ) -> Result<Option<Exchanged>, Halt>
+        ensures { Changes (exchange_read (read_variable self.old.names.scalars variable) all (ere_at self.old.names ere) (str_of replacement.now))
+            self.old self.new result }
+    {
+        let old = self.read_variable(variable)?;
+        self.exchange(all, PatternSource::Ere(ere), replacement, &old)
     }
 
     // Gives the record a text that was made, as an assignment to `$0` does.

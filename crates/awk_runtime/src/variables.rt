@@ -131,6 +131,10 @@ impl Runtime {
     fn put_local(&mut self, index: u32, value: Value) -> Result<(), Halt>
         ensures { Changes (put_local index value) self.old self.new result }
     {
+        if value.is_settled() {
+            self.frames.set_value(index as usize, value);
+            return Ok(());
+        }
         let value = value.settled(self.alloc)?;
         self.frames.set_value(index as usize, value);
         Ok(())

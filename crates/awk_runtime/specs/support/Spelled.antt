@@ -11,8 +11,12 @@ use Rattle.awk_semantics.specs.State.{Run, ◌>>=◌, lift, ret}
 use Rattle.awk_semantics.specs.Operators.{applied, pattern_in, truth_value}
 use Rattle.awk_semantics.specs.Texts.{separator_in, ere_separator}
 use Rattle.awk_semantics.specs.Primitives.{record_text, field_separator}
+use Rattle.awk_storage.specs.declared.position.Variable.{Variable}
 use Rattle.awk_storage.specs.declared.position.Place.TheVariants as place
+use Rattle.awk_storage.specs.Positions.{read_variable}
 use Rattle.awk_storage.specs.Forms.{substitute_at}
+use Rattle.awk_functions.specs.declared.found.Exchanged.{Exchanged}
+use Rattle.awk_functions.specs.definitions.Matched.{exchanged_by}
 use Rattle.awk_runtime.specs.support.Naming.{Naming, ere_at}
 use Rattle.awk_runtime.specs.declared.texts.PatternSource.{PatternSource}
 use Rattle.awk_runtime.specs.declared.texts.PatternSource.TheVariants as source
@@ -49,6 +53,13 @@ abbrev pub as_truth : Result Bool Halt → Result Value Halt
 as_truth (Ok holds) = Ok (truth_value holds)
 as_truth (Err h) = Err h
 
--- `sub` and `gsub` in the record; `names` are those of the program's variables by their slots
+-- what is read, with matches exchanged
+abbrev pub exchange_read : Run Value → (all : Bool) (pattern replacement : List ℕ) → Run (Option Exchanged)
+exchange_read read all pattern replacement = read >>= λ old. lift (exchanged_by all (pattern_in pattern) replacement (str_of old))
+
+-- `sub` and `gsub` in a variable, and in the record; `names` are those of the program's variables by their slots
+abbrev pub substitute_in_variable : (names : List (List ℕ)) (all : Bool) (pattern replacement : List ℕ) → Variable → Run Value
+substitute_in_variable names all pattern replacement x = read_variable names x >>= λ old. substitute_at names all pattern replacement (place.Variable x) value.Nothing old
+
 abbrev pub substitute_in_record : (names : List (List ℕ)) (all : Bool) (pattern replacement : List ℕ) → Run Value
 substitute_in_record names all pattern replacement = record_text >>= λ old. substitute_at names all pattern replacement place.Field (value.Number (pos 0)) old
