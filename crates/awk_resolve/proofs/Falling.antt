@@ -50,7 +50,7 @@ use Rattle.awk_resolve.specs.declared.node.ValueNode.{ValueNode}
 use Rattle.awk_resolve.specs.declared.node.ValueNode.TheVariants as v
 use Rattle.awk_resolve.specs.declared.node.EffectNode.{EffectNode}
 use Rattle.awk_resolve.specs.declared.node.EffectNode.TheVariants as e
-use Rattle.awk_resolve.specs.definitions.Nodes.{operand_value, operated_with, operated_on, operand_values, key_value, assign_variable, append_to, append_operands_at, append_operands, append_by_step, print_operands, assign_target, raise_target, update, increment, Tables, first, second, taken, given_by, call_at, substitute_by, substitute, getline_by, value_of, target_by, effect_of}
+use Rattle.awk_resolve.specs.definitions.Nodes.{operand_value, operated_with, operated_on, operand_values, key_value, assign_variable, append_to, append_operands_at, append_operands, append_by_step, print_operands, assign_target, raise_target, update, increment, Tables, first, second, taken, given_by, call_at, substitute_by, substitute, substitute_in, getline_by, value_of, target_by, effect_of}
 
 pub record Falls {A : Type 0} (m : Run A) : Type 0 where
   pub falls : (s : State) → (m s).state.steps ≤ s.steps
@@ -277,6 +277,10 @@ module _ (tables : Tables) where
   substitute_falls all pattern None vs = then_falls _ (kept_falls keeps_record_text) (λ old. substitute_by_falls all pattern place.Field _ old vs)
   substitute_falls all pattern (Some p) vs = substitute_by_falls all pattern p _ _ _
 
+  substitute_in_falls : (all : Bool) (i : ℕ) (w : Value) (x : Option Variable) → Falls (substitute_in tables all i w x)
+  substitute_in_falls all i w None = then_falls _ (kept_falls keeps_record_text) (λ old. substitute_at_falls tables.names all _ _ place.Field (value.Number (pos 0)) old)
+  substitute_in_falls all i w (Some x) = then_falls _ (read_variable_falls tables.names x) (λ old. substitute_at_falls tables.names all _ _ (place.Variable x) value.Nothing old)
+
   getline_falls : (x : Source) (p : Option Place) (vs : List Value) → Falls (getline_by tables x p vs)
   getline_falls source.Main p vs = main_getline_falls tables.names p (first vs)
   getline_falls source.File p vs = named_getline_falls tables.names input.File _ p (second vs)
@@ -318,6 +322,7 @@ module _ (tables : Tables) where
     value_falls (v.Split a by.Value) vs = split_falls a _ (lift_falls _)
     value_falls (v.Split a (by.Ere i)) vs = split_falls a _ (lift_falls _)
     value_falls (v.Substitute all pattern p) vs = substitute_falls all pattern p vs
+    value_falls (v.SubstituteIn x) vs = substitute_in_falls x.all x.ere x.replacement x.variable
     value_falls (v.Getline x p) vs = getline_falls x p vs
     value_falls v.Close vs = then_falls _ (kept_falls (keeps_close_named (str_of (first vs)))) (λ k. lift_falls _)
     value_falls v.System vs = then_falls _ (kept_falls (keeps_run_command (str_of (first vs)))) (λ k. lift_falls _)

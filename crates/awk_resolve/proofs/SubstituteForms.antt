@@ -5,14 +5,14 @@ use Rattle.awk_value.specs.declared.value.Value.{Value}
 use Rattle.awk_value.specs.declared.value.Value.TheVariants as value
 use Rattle.awk_value.specs.Values.{str_of}
 use Rattle.awk_kinds.specs.Variables.{name_of}
-use Rattle.awk_grammar.specs.Tree.{Expr, Ere, BuiltIn, Exprs, Nil, Cons}
+use Rattle.awk_grammar.specs.Tree.{Expr, Ere, String, Name, BuiltIn, Exprs, Nil, Cons}
 use Rattle.awk_kinds.specs.definitions.Kinds.{FormalParameter}
 use Rattle.awk_kinds.specs.definitions.Signatures.{ProgramKinds}
-use Rattle.awk_semantics.specs.definitions.State.{State, ◌>>=◌, lift, ret}
+use Rattle.awk_semantics.specs.definitions.State.{State, Run, ◌>>=◌, lift, ret}
 use Rattle.awk_semantics.specs.definitions.Operators.{pattern_in}
 use Rattle.awk_semantics.specs.definitions.Texts.{exchanged}
 use Rattle.awk_semantics.specs.definitions.Primitives.{record_text, read_element_at}
-use Rattle.awk_semantics.specs.definitions.Places.{Place as Target, AField, read_place}
+use Rattle.awk_semantics.specs.definitions.Places.{Place as Target, AName, AField, read_place}
 use Rattle.awk_semantics.specs.definitions.BuiltIns.{Role, AsValue, AsPattern, AsPlace, Argument, OfValue, OfEre, OfPlace, value_of as argument_value, assign_exchange, exchange, apply_built_in}
 use Rattle.awk_semantics.specs.definitions.Semantics.{Functions, eval, place_of, take_arguments}
 use Rattle.awk_semantics.specs.support.Keeps.{Keeps}
@@ -29,11 +29,11 @@ use Rattle.awk_resolve.specs.declared.builder.Builder.{Builder}
 use Rattle.awk_resolve.specs.declared.node.ValueNode.TheVariants as v
 use Rattle.awk_resolve.specs.declared.node.Node.TheVariants as n
 use Rattle.awk_resolve.specs.definitions.Nodes.{ere_at, first, second, operands, pattern_operands, target_operands, substitute_by}
-use Rattle.awk_resolve.specs.support.Builds.{Grows, Pushes, Extends, IsIn, Program, Evaluate, EvaluateOperand, EvaluateUnlessEre, IsAt, FindsPlace, Builds, Stands}
-use Rattle.awk_resolve.specs.support.Operands.{FindsPattern, substitution}
+use Rattle.awk_resolve.specs.support.Builds.{Grows, Pushes, Extends, IsIn, Program, Evaluate, EvaluateOperand, EvaluateUnlessEre, IsAt, FindsVariable, FindsPlace, Builds, Stands}
+use Rattle.awk_resolve.specs.support.Operands.{FindsPattern, PushesEre, exchange_node, substitution}
 use Rattle.awk_resolve.proofs.Calculus.{assoc_at, later_same, later_in, first_same, given}
-use Rattle.awk_resolve.proofs.Building.{grows, same, still}
-use Rattle.awk_resolve.proofs.Positions.{at_field, exchanged_in}
+use Rattle.awk_resolve.proofs.Building.{grows, extends, same, still}
+use Rattle.awk_resolve.proofs.Positions.{at_variable, at_field, exchanged_in}
 use Rattle.awk_resolve.proofs.Taking.{pushed, Takes, node, takes_stand, value_first, place_first, taken_first, evaluates}
 use Rattle.awk_resolve.proofs.ExpressionForms.{takes_behind, ere_added, ere_there}
 use Rattle.awk_resolve.proofs.PatternForms.{evaluated_unless_ere, ere_first}
@@ -186,3 +186,47 @@ substitute_place_lowered {kinds = kinds} {d = d} {j = j} {next = next} {x = x} {
     place_taken p.functions [] target Nil (λ as'. exchange all (OfValue w ∷ (OfValue u ∷ as'))) t1
     ∙ later_same (place_of p.functions target) _ _ t1 (λ o t2. later_same (read_place o) _ _ t2 (λ old t3. none_left p.functions [] (λ as'. exchange all (OfValue w ∷ (OfValue u ∷ (OfPlace o old ∷ as')))) t3)))))
     ∙ exchanges p.functions all (Cons y (Cons x (Cons target Nil))) s)
+
+-- with nothing on the stack: the pattern is an ERE, and the replacement a string
+
+string_then : {B : Type 0} (functions : Functions) (text : List ℕ) (f : Value → Run B) (s : State) → (eval functions (String text) >>= f) s ≡ f (value.Text text) s
+unfolding eval
+string_then functions text f s = given (value.Text text) f s
+
+name_then : {B : Type 0} (functions : Functions) (x : List ℕ) (f : Target → Run B) (s : State) → (place_of functions (Name x) >>= f) s ≡ f (AName x) s
+unfolding place_of
+name_then functions x f s = given (AName x) f s
+
+string_exchanged : (functions : Functions) (all : Bool) (text replacement : List ℕ) (es : Exprs) (s : State)
+    → (take_arguments functions (AsPlace ∷ []) [] es >>= λ as'. exchange all (OfEre text ∷ (OfValue (value.Text replacement) ∷ as'))) s ≡ eval functions (BuiltIn (substitution all) (Cons (Ere text) (Cons (String replacement) es))) s
+string_exchanged functions all text replacement es s =
+    sym (ere_taken functions (AsValue ∷ (AsPlace ∷ [])) text (Cons (String replacement) es) (λ as'. exchange all as') s
+    ∙ value_taken functions (AsPlace ∷ []) (String replacement) es (λ as'. exchange all (OfEre text ∷ as')) s
+    ∙ string_then functions replacement (λ u. take_arguments functions (AsPlace ∷ []) [] es >>= λ as'. exchange all (OfEre text ∷ (OfValue u ∷ as'))) s)
+    ∙ exchanges functions all (Cons (Ere text) (Cons (String replacement) es)) s
+
+module _ {kinds : ProgramKinds} {parameters : List FormalParameter} {a c : Builder} {i next : ℕ} (all : Bool) (text replacement : List ℕ) (h : Stands next a) where
+  pub record_exchanged_in : PushesEre a c (λ k. exchange_node all k replacement None) text i next → Builds kinds parameters a c i (Evaluate (BuiltIn (substitution all) (Cons (Ere text) (Cons (String replacement) Nil))) next)
+  record_exchanged_in q =
+      let g = ere_added q.adds in
+      let t = node (still g h) q.pushes in
+      evaluates (takes_behind g t) (λ vs. refl) (BuiltIn (substitution all) (Cons (Ere text) (Cons (String replacement) Nil))) (λ p l m vs s z.
+      ap (λ (x : List ℕ). (record_text >>= λ old. substitute_at p.tables.names all x replacement place.Field (value.Number (pos 0)) old) s) (ere_there q.adds p (grows t.extends.grows l))
+      ∙ exchanged_record p all (OfEre text) (value.Text replacement) m s z
+      ∙ sym (none_left p.functions (AsPlace ∷ []) (λ as'. exchange all (OfEre text ∷ (OfValue (value.Text replacement) ∷ as'))) s)
+      ∙ string_exchanged p.functions all text replacement Nil s)
+
+  pub variable_exchanged_in : {b : Builder} {x : Variable} {name : List ℕ} → FindsVariable kinds parameters a b x name → PushesEre b c (λ k. exchange_node all k replacement (Some x)) text i next
+      → Builds kinds parameters a c i (Evaluate (BuiltIn (substitution all) (Cons (Ere text) (Cons (String replacement) (Cons (Name name) Nil)))) next)
+  variable_exchanged_in {x = x} {name = name} found q =
+      let g = ere_added q.adds in
+      let t = node (still g (still found.extends h)) q.pushes in
+      evaluates (takes_behind (extends found.extends g) t) (λ vs. refl) (BuiltIn (substitution all) (Cons (Ere text) (Cons (String replacement) (Cons (Name name) Nil)))) (λ p l m vs s z.
+      let at : IsAt p parameters (AName name) (place.Variable x) value.Nothing = at_variable (grows g.grows (grows t.extends.grows l)) found.is in
+      ap (λ (y : List ℕ). (read_variable p.tables.names x >>= λ old. substitute_at p.tables.names all y replacement (place.Variable x) value.Nothing old) s) (ere_there q.adds p (grows t.extends.grows l))
+      ∙ later_in _ _ s m (keeps_read_variable p.tables.names x) z (λ old u z'. exchanged_place p all (OfEre text) (value.Text replacement) (AName name) (place.Variable x) value.Nothing old at m u z')
+      ∙ first_same (read_variable p.tables.names x) (read_place (AName name)) _ s (sym (at.reads m s z))
+      ∙ sym (place_taken p.functions [] (Name name) Nil (λ as'. exchange all (OfEre text ∷ (OfValue (value.Text replacement) ∷ as'))) s
+      ∙ name_then p.functions name (λ o. read_place o >>= λ old. take_arguments p.functions [] [] Nil >>= λ as'. exchange all (OfEre text ∷ (OfValue (value.Text replacement) ∷ (OfPlace o old ∷ as')))) s
+      ∙ later_same (read_place (AName name)) _ _ s (λ old u. none_left p.functions [] (λ as'. exchange all (OfEre text ∷ (OfValue (value.Text replacement) ∷ (OfPlace (AName name) old ∷ as')))) u))
+      ∙ string_exchanged p.functions all text replacement (Cons (Name name) Nil) s)

@@ -1,19 +1,21 @@
 // Built-in functions as nodes.
 
-ghost use Rattle.std.specs.Prelude.{◌≡◌, IfOk};
+ghost use Rattle.std.specs.Prelude.{◌≡◌, IfOk, IfSome};
 ghost use Rattle.awk_grammar.specs.Tree as tree;
-ghost use Rattle.awk_grammar.specs.View.{exprs_of};
+ghost use Rattle.awk_grammar.specs.View.{expr_of, exprs_of};
 ghost use Rattle.awk_resolve.specs.support.Builds.{Stands, Evaluate};
-ghost use Rattle.awk_resolve.specs.support.Operands.{split_by, takes_one, reads_in_place, strict_node, substitution};
+ghost use Rattle.awk_resolve.specs.support.Operands.{PushesEre, exchange_node, split_by, takes_one, reads_in_place, strict_node, substitution};
 ghost use Rattle.awk_resolve.specs.support.Scopes.{Builds, LowersValue};
 
 use crate::builder::{Builder, next_number};
 use crate::calls::name_in;
-use crate::node::{SplitBy, ValueNode};
+use crate::node::{Exchange, SplitBy, ValueNode};
 use crate::readings::is_read_behind;
 use crate::scope::Scope;
 use awk_grammar::tree::Expr;
 use awk_lex::token::BuiltIn;
+use awk_storage::Variable;
+use awk_value::{Bytes, Value};
 use std::alloc::AllocError;
 
 /// What separates the pieces, by the ERE that stands there, or by a value.
@@ -56,6 +58,19 @@ fn strict_node(function: BuiltIn, count: u32) -> ValueNode
         BuiltIn::System => ValueNode::System,
         _ => ValueNode::Apply(function, count),
     }
+}
+
+/// The ERE and the string that a pattern and a replacement are, if they are such.
+fn ere_and_string<'a>(pattern: &'a Expr, replacement: &'a Expr) -> Option<(&'a Bytes, &'a Bytes)>
+    ensures { IfSome result (λ texts. (expr_of pattern.now ≡ tree.Ere texts.0.now) × (expr_of replacement.now ≡ tree.String texts.1.now)) }
+{
+    let Expr::Ere(ere) = pattern else {
+        return None;
+    };
+    let Expr::String(text) = replacement else {
+        return None;
+    };
+    Some((&ere.text, text))
 }
 
 // The functions below know the numbers of arguments that the grammar has; a call with another one is never parsed.
@@ -138,6 +153,60 @@ impl Builder {
         }
     }
 
+    fn push_substitute(
+        &mut self,
+        all: bool,
+        ere: &Bytes,
+        replacement: &Bytes,
+        variable: Option<Variable>,
+        next: u32,
+    ) -> Result<u32, AllocError>
+        ensures { IfOk result (λ place. PushesEre self.old self.new (λ i. exchange_node all i replacement.now variable) ere.now place next) }
+    {
+        let number = self.ere_of(ere)?;
+        let exchange = Exchange {
+            all,
+            ere: number,
+            replacement: Value::Text(replacement.clone()?),
+            variable,
+        };
+        self.push_value(ValueNode::SubstituteIn(exchange), next)
+    }
+
+    /// `sub` and `gsub` that take nothing off the stack: by an ERE, with a string, in a variable or in the record. None of any other.
+    fn lower_substitute_in(
+        &mut self,
+        scope: &Scope,
+        all: bool,
+        list: &[Expr],
+        next: u32,
+    ) -> Result<Option<u32>, AllocError>
+        requires { Stands next self.old }
+        ensures { IfOk result (λ place. LowersValue scope.now self.old self.new place (tree.BuiltIn (substitution all) (exprs_of list.now)) next) }
+    {
+        match list {
+            [pattern, replacement] => {
+                let Some((ere, text)) = ere_and_string(pattern, replacement) else {
+                    return Ok(None);
+                };
+                let place = self.push_substitute(all, ere, text, None, next)?;
+                Ok(Some(place))
+            }
+            [pattern, replacement, variable] => {
+                let Some((ere, text)) = ere_and_string(pattern, replacement) else {
+                    return Ok(None);
+                };
+                let Expr::Name(x) = variable else {
+                    return Ok(None);
+                };
+                let variable = Some(self.variable_of(scope, x.as_slice())?);
+                let place = self.push_substitute(all, ere, text, variable, next)?;
+                Ok(Some(place))
+            }
+            _ => Ok(None),
+        }
+    }
+
     /// `sub` and `gsub`
     #[cycle(expressions)]
     fn lower_substitute(
@@ -150,6 +219,9 @@ impl Builder {
         requires { Stands next self.old }
         ensures { IfOk result (λ place. Builds scope.now self.old self.new place (Evaluate (tree.BuiltIn (substitution all) (exprs_of list.now)) next)) }
     {
+        if let Some(place) = self.lower_substitute_in(scope, all, list, next)? {
+            return Ok(place);
+        }
         match list {
             [pattern, replacement] => {
                 let number = self.pattern_of(pattern)?;

@@ -54,6 +54,17 @@ pub enum Target {
     Element(Array, Key),
 }
 
+/// What is exchanged where it stands: matches of an ERE of the program, with a value of the program; in a variable or in the record.
+#[derive(Drop)]
+pub struct Exchange {
+    /// Whether all matches are exchanged, and not the first alone.
+    pub all: bool,
+    /// The number of the ERE.
+    pub ere: u32,
+    pub replacement: Value,
+    pub variable: Option<Variable>,
+}
+
 /// What takes values off the stack and puts one on it. The operand that was evaluated last is the topmost.
 #[derive(Drop)]
 pub enum ValueNode {
@@ -100,6 +111,8 @@ pub enum ValueNode {
     Split(Array, SplitBy),
     /// `gsub`, or else `sub`; by an ERE or a text on the stack; in a place or in the record.
     Substitute(bool, Option<u32>, Option<Place>),
+    /// The same with nothing on the stack.
+    SubstituteIn(Exchange),
     /// `getline`, to a place or to the record.
     Getline(Source, Option<Place>),
     Close,

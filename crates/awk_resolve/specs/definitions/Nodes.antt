@@ -196,6 +196,11 @@ module _ (tables : Tables) where
   substitute all pattern None vs = record_text >>= λ old. substitute_by all pattern place.Field (value.Number (pos 0)) old vs
   substitute all pattern (Some p) vs = substitute_by all pattern p (second vs) (first vs) (drop (suc (operands p)) vs)
 
+  -- in a variable or in the record, by an ERE of the program
+  abbrev pub substitute_in : (all : Bool) → ℕ → (replacement : Value) → Option Variable → Run Value
+  substitute_in all i w None = record_text >>= λ old. substitute_at tables.names all (ere_at tables i) (str_of w) place.Field (value.Number (pos 0)) old
+  substitute_in all i w (Some x) = read_variable tables.names x >>= λ old. substitute_at tables.names all (ere_at tables i) (str_of w) (place.Variable x) value.Nothing old
+
   -- `getline`: the name of a file lies above the operand of the place, and a command below it
   abbrev pub getline_by : Source → Option Place → List Value → Run Value
   getline_by source.Main p vs = main_getline_at tables.names p (first vs)
@@ -235,6 +240,7 @@ module _ (tables : Tables) where
   value_of functions (v.Split a by.Value) vs = split_with a (str_of (second vs)) (lift (separator_in (str_of (first vs))))
   value_of functions (v.Split a (by.Ere i)) vs = split_with a (str_of (first vs)) (lift (ere_separator (pattern_in (ere_at tables i))))
   value_of functions (v.Substitute all pattern p) vs = substitute all pattern p vs
+  value_of functions (v.SubstituteIn x) vs = substitute_in x.all x.ere x.replacement x.variable
   value_of functions (v.Getline x p) vs = getline_by x p vs
   value_of functions v.Close vs = close_named (str_of (first vs)) >>= λ k. ret (value.Number k)
   value_of functions v.System vs = run_command (str_of (first vs)) >>= λ k. ret (value.Number k)
@@ -291,6 +297,7 @@ popped (v.ApplyTo f list k) = k
 popped (v.Match pattern) = suc (pattern_operands pattern)
 popped (v.Split a b) = suc (split_operands b)
 popped (v.Substitute all pattern p) = target_operands p + suc (pattern_operands pattern)
+popped (v.SubstituteIn x) = 0
 popped (v.Getline x p) = source_operands x + place_operands p
 popped v.Close = 1
 popped v.System = 1

@@ -14,6 +14,7 @@ use Rattle.awk_grammar.specs.declared.tree.UnaryOperator.TheVariants as unary
 use Rattle.awk_grammar.specs.declared.tree.BinaryOperator.{BinaryOperator}
 use Rattle.awk_grammar.specs.declared.tree.BinaryOperator.TheVariants.{Infix}
 use Rattle.awk_grammar.specs.Tree.{Expr, Ere, OptionalExpr, NoExpr, AnExpr}
+use Rattle.awk_storage.specs.declared.position.Variable.{Variable}
 use Rattle.awk_resolve.specs.declared.node.Operand.TheVariants as operand
 use Rattle.awk_resolve.specs.declared.node.Source.{Source}
 use Rattle.awk_resolve.specs.declared.node.Source.TheVariants as source
@@ -103,6 +104,10 @@ abbrev pub strict_node : BuiltIn → ℕ → ValueNode
 strict_node built_in.Close k = v.Close
 strict_node built_in.System k = v.System
 strict_node f k = v.Apply f k
+
+-- what a string is exchanged by, with nothing on the stack
+abbrev pub exchange_node : (all : Bool) → ℕ → (replacement : List ℕ) → Option Variable → ValueNode
+exchange_node all i text x = v.SubstituteIn (record { all = all; ere = i; replacement = value.Text text; variable = x })
 
 abbrev pub substitution : Bool → BuiltIn
 substitution true = built_in.Gsub

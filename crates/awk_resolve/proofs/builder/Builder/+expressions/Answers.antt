@@ -462,12 +462,12 @@ lower_split-returns-in_ok-right-in-len3 t c =
 pub lower_substitute-returns-in_ok-right-in-len2 : goal.lower_substitute-returns-in_ok-right-in-len2
 lower_substitute-returns-in_ok-right-in-len2 t c =
     rw (two_exprs c.args.list.now c.pattern-item.result c.replacement-item.result c.in-len2.len_at_least c.in-len2.len_below c.pattern-item.is c.replacement-item.is)
-    (ok_map _ (λ i q. substitute_lowered c.args.all c.in_ok-number-in-len2.number c.requires c.in_ok-number-in-len2.ensures c.in_ok-substitute-in-len2.ensures c.in_ok-right-in-len2.ensures q) c.lower_unless_ere.ensures)
+    (ok_map _ (λ i q. behind (rw c.in_default.is at c.in_ok-place.ensures) (substitute_lowered c.args.all c.in_ok-number-in-len2.number (still (rw c.in_default.is at c.in_ok-place.ensures) c.requires) c.in_ok-number-in-len2.ensures c.in_ok-substitute-in-len2.ensures c.in_ok-right-in-len2.ensures q)) c.lower_unless_ere.ensures)
 
 pub lower_substitute-returns-in_ok-right-in-len3 : goal.lower_substitute-returns-in_ok-right-in-len3
 lower_substitute-returns-in_ok-right-in-len3 t c =
     rw (three_exprs c.args.list.now c.pattern-item-then-list-lt4.result c.replacement-item-then-list-lt4.result c.place-item.result c.in-len3.len_at_least c.in-len3.len_below c.pattern-item-then-list-lt4.is c.replacement-item-then-list-lt4.is c.place-item.is)
-    (ok_map _ (λ i q. substitute_place_lowered c.args.all c.in_ok-number-in-len3.number c.requires c.in_ok-target-in-len3.ensures c.in_ok-number-in-len3.ensures c.in_ok-substitute-in-len3.ensures c.in_ok-old-in-len3.ensures c.in_ok-operand-in-len3.ensures c.in_ok-right-in-len3.ensures q) c.lower_unless_ere-in-len3.ensures)
+    (ok_map _ (λ i q. behind (rw c.in_default.is at c.in_ok-place.ensures) (substitute_place_lowered c.args.all c.in_ok-number-in-len3.number (still (rw c.in_default.is at c.in_ok-place.ensures) c.requires) c.in_ok-target-in-len3.ensures c.in_ok-number-in-len3.ensures c.in_ok-substitute-in-len3.ensures c.in_ok-old-in-len3.ensures c.in_ok-operand-in-len3.ensures c.in_ok-right-in-len3.ensures q)) c.lower_unless_ere-in-len3.ensures)
 
 pub lower_in_place-returns-then-not-reads_in_place : goal.lower_in_place-returns-then-not-reads_in_place
 lower_in_place-returns-then-not-reads_in_place t c = same
