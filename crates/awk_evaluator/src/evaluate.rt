@@ -5,7 +5,7 @@ ghost use Rattle.awk_lex.specs.declared.token.Operator.TheVariants.{Matches};
 ghost use Rattle.awk_grammar.specs.declared.tree.BinaryOperator.TheVariants.{Infix};
 ghost use Rattle.awk_runtime.specs.Simulation.{IsReady};
 ghost use Rattle.awk_resolve.specs.declared.node.Node.TheVariants.{Value as ValueAt};
-ghost use Rattle.awk_resolve.specs.declared.node.ValueNode.TheVariants.{Operate, Call};
+ghost use Rattle.awk_resolve.specs.declared.node.ValueNode.TheVariants.{Operate, SubstituteIn, Call};
 ghost use Rattle.awk_resolve.specs.Nodes.{CallsFit};
 ghost use Rattle.awk_resolve.specs.Plans.{array_parameters};
 ghost use Rattle.awk_evaluator.specs.Rest.{IsSound, AtNode};
@@ -17,7 +17,7 @@ use crate::moves::function_of;
 use awk_grammar::tree::BinaryOperator;
 use awk_lex::token::Operator;
 use awk_resolve::Plan;
-use awk_resolve::node::{ArgumentForm, ValueNode};
+use awk_resolve::node::{ArgumentForm, Exchange, ValueNode};
 use awk_semantics::Halt;
 use awk_storage::Place;
 use awk_streams::World;
@@ -48,7 +48,29 @@ impl Machine {
         if let ValueNode::Operate(BinaryOperator::Infix(Operator::Matches)) = node {
             return self.put_match(world, plan, node, next);
         }
+        if let ValueNode::SubstituteIn(exchange) = node {
+            return self.put_substituted(world, plan, exchange, next);
+        }
         self.put_any_value(world, plan, node, next)
+    }
+
+    /// The same of matches that are exchanged where they stand.
+    #[inline(never)]
+    fn put_substituted<W: World>(
+        &mut self,
+        world: &mut W,
+        plan: &Plan,
+        exchange: &Exchange,
+        next: u32,
+    ) -> Move
+        requires ready { IsReady W.is_logged (W.state world.old) self.old.runtime.streams }
+        ensures ready { IsReady W.is_logged (W.state world.new) self.new.runtime.streams }
+        ensures moves { Moves W.is_logged plan.now (AtNode (ValueAt (SubstituteIn exchange.now) next)) self.old (W.state world.old) result self.new (W.state world.new) }
+    {
+        match self.substitute_in(exchange) {
+            Ok(count) => self.put_found(count, next),
+            Err(halt) => self.halt_by(halt),
+        }
     }
 
     /// The same of whether an operand matches a pattern.
@@ -214,6 +236,7 @@ impl Machine {
             ValueNode::System => self.system(world),
             ValueNode::FlushAll => self.flush_all(world),
             ValueNode::Flush => self.flush(world),
+            ValueNode::SubstituteIn(_) => unreachable!(),
             ValueNode::Call(_, _) => unreachable!(),
         }
     }

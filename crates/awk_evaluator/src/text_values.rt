@@ -3,14 +3,14 @@
 ghost use Rattle.std.specs.Prelude.{◌≡◌, ◌∷◌, drop, true, false, None as NoneOf, Some as SomeOf, Ok, Err, IfErr};
 ghost use Rattle.awk_runtime.specs.Simulation.{Changes};
 ghost use Rattle.awk_resolve.specs.Nodes.{Tables, pattern_operands, substitute_by};
-ghost use Rattle.awk_resolve.specs.declared.node.ValueNode.TheVariants.{Match, Split, Substitute};
+ghost use Rattle.awk_resolve.specs.declared.node.ValueNode.TheVariants.{Match, Split, Substitute, SubstituteIn};
 ghost use Rattle.awk_evaluator.specs.Quick.{Puts};
 ghost use Rattle.awk_evaluator.specs.Rest.{tables_in};
 ghost use Rattle.awk_evaluator.specs.Moves.{Computes};
 
 use crate::machine::Machine;
 use crate::values::operand_count;
-use awk_resolve::node::SplitBy;
+use awk_resolve::node::{Exchange, SplitBy};
 use awk_runtime::PatternSource;
 use awk_semantics::Halt;
 use awk_storage::{Array, Place, Variable};
@@ -166,6 +166,25 @@ impl Machine {
         drop(self.operands.pop());
         self.operands.replace(count);
         Ok(true)
+    }
+
+    /// Exchanges matches of an ERE of the program in a variable or in the record. (POSIX awk, String Functions: sub, gsub)
+    #[inline(always)]
+    pub(crate) fn substitute_in(&mut self, exchange: &Exchange) -> Result<Value, Halt>
+        ensures { Computes (SubstituteIn exchange.now) self.old result self.new }
+    {
+        let all = exchange.all;
+        let replacement = &exchange.replacement;
+        match exchange.variable {
+            Some(variable) => {
+                self.runtime
+                    .substitute_in_variable(all, exchange.ere, replacement, variable)
+            }
+            None => {
+                let pattern = PatternSource::Ere(exchange.ere);
+                self.runtime.substitute_in_record(all, pattern, replacement)
+            }
+        }
     }
 
     /// Exchanges matches in a place or in the record. (POSIX awk, String Functions: sub, gsub)

@@ -14,6 +14,7 @@ use Rattle.awk_semantics.specs.Semantics.{Functions}
 use Rattle.awk_resolve.specs.declared.node.Node.{Node}
 use Rattle.awk_resolve.specs.declared.node.Node.TheVariants as n
 use Rattle.awk_resolve.specs.declared.node.ArgumentForm.{ArgumentForm}
+use Rattle.awk_resolve.specs.declared.node.Exchange.{Exchange}
 use Rattle.awk_resolve.specs.declared.node.ValueNode.{ValueNode}
 use Rattle.awk_resolve.specs.declared.node.ValueNode.TheVariants as v
 use Rattle.awk_resolve.specs.declared.node.EffectNode.{EffectNode}
@@ -181,7 +182,7 @@ pub record PutsFound (w : Value) (next : ℕ) (m : Machine) (to : Move) (m' : Ma
 
 -- a node that is no call
 abbrev pub IsStrict : ValueNode → Type 0
-IsStrict x = (f : ℕ) (fs : Vec ArgumentForm) → x ≢ v.Call f fs
+IsStrict x = ((f : ℕ) (fs : Vec ArgumentForm) → x ≢ v.Call f fs) × ((e : Exchange) → x ≢ v.SubstituteIn e)
 
 -- the value of a node is found: what it takes is taken off the stack
 pub record Evaluates (is_logged : Type 0) (x : ValueNode) (m : Machine) (k : WorldState) (r : Result Value Halt) (m' : Machine) (k' : WorldState) : Type 0 where
