@@ -36,7 +36,7 @@ pub(crate) struct StatementScan<'a> {
     /// What the parentheses stand before that are open, or open next.
     head: Option<Surrounding>,
     /// Whether the body of a `do` has ended, whose `while` comes next.
-    ends_do: bool,
+    pub(crate) ends_do: bool,
     scopes: Vec<Scope>,
     /// The token of the name that is set behind the statement.
     setting: Option<usize>,

@@ -15,6 +15,10 @@ pub(crate) enum Mode {
     Files,
     /// The programs in shell scripts and makefiles.
     Shell,
+    /// A run of the awk, of which is told where it ended.
+    Run,
+    /// The same, with how often each statement ran.
+    Count,
     Version,
     Help,
 }
@@ -37,6 +41,8 @@ fn mode_of(word: &[u8]) -> Option<Mode> {
         b"--all" => Some(Mode::Stage(Stage::All)),
         b"--files" => Some(Mode::Files),
         b"--shell" => Some(Mode::Shell),
+        b"--run" => Some(Mode::Run),
+        b"--count" => Some(Mode::Count),
         b"--version" => Some(Mode::Version),
         b"--help" => Some(Mode::Help),
         _ => None,

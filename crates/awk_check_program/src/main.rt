@@ -1,4 +1,4 @@
-//! awk-check: whether a program of awk is refused, where and why, and what it may not mean.
+//! awk-check: whether a program of awk is refused, where and why, and what it may not mean; and where a run of it ends.
 #![tactic(auto)]
 
 mod asked;
@@ -6,6 +6,7 @@ mod checks;
 mod failure;
 mod files;
 mod operands;
+mod run;
 mod usage;
 mod version;
 
@@ -13,6 +14,8 @@ use crate::asked::{Asked, Mode, read_asked};
 use crate::checks::{Checks, program_text};
 use crate::failure::Failure;
 use crate::files::ProgramText;
+pub use crate::run::run_in_system;
+use crate::run::{StandardStreams, run_words};
 use crate::usage::usage_fault;
 use crate::version::{VERSION, origin};
 use awk_check::{Stage, add_visible, write_findings};
@@ -20,9 +23,9 @@ use awk_command::{CommandFault, CommandLine, ProgramSource, given_words, read_co
 use awk_sarif::sarif_of;
 use std::alloc::{AllocError, Global};
 use std::env::Env;
-use std::fs::Files;
+use std::fs::{File, Files};
 use std::io::{self, Write};
-use std::process::ExitCode;
+use std::process::{ExitCode, Processes};
 
 /// The status where nothing was checked.
 const NOT_CHECKED: u8 = 2;
@@ -30,10 +33,11 @@ const NOT_CHECKED: u8 = 2;
 const USAGE: &str =
     "usage: awk-check [--format lines|sarif] [--pieces|--each|--all] [-F sep] [-v name=text].. [-f file.. | program] [operand..]
        awk-check [--format lines|sarif] --files file.. | --shell file..
+       awk-check --run|--count [-F sep] [-v name=text].. [-L n] [-f file.. | program] [operand..]
        awk-check --help | --version";
 
 const HELP: &str =
-    "Tells where and why a program of awk is refused, and what it may not mean; runs nothing.
+    "Tells where and why a program of awk is refused, and what it may not mean; runs nothing but with --run and --count.
   -F sep          the separator of fields, as for awk
   -v name=text    an assignment, as for awk
   -f file         a file of the program; - is standard input
@@ -42,11 +46,14 @@ const HELP: &str =
   --all           prints the program for what those print, joined in order
   --files file..  files, each of which is a program of its own
   --shell file..  shell scripts and makefiles with programs in them
+  --run           runs it as awk does, and tells where in it a fault ends the run
+  --count         does so, and tells how often each statement ran
   --format sarif  tells it as a log of SARIF, which is JSON
   --version       prints the version, and of what it was built
   --help          prints this
 The status is 0 where nothing is told, 1 where something is, and 2 of a program that is refused;
-of several the greatest. With --pieces, --each and --all 0 is yes and 1 no.";
+of several the greatest. With --pieces, --each and --all 0 is yes and 1 no, and with --run and
+--count it is that of awk.";
 
 /// Tells which word makes words no command line.
 fn tell_fault<R: Eprint + AllocGlobal>(
@@ -196,24 +203,38 @@ fn serve_version<R: Files + Input + Print + AllocGlobal>(rt: &R) -> Result<u8, F
 }
 
 /// Does what the words after the program's name ask for.
-fn serve<R: Env + Files + Input + Print + Eprint + AllocGlobal>(rt: &R) -> Result<u8, Failure> {
+fn serve<R: Env + Files<File = File> + Input + Print + Eprint + Processes + AllocGlobal>(
+    rt: &R,
+    streams: StandardStreams,
+) -> Result<u8, Failure> {
     let words = given_words(rt, rt.alloc())?;
     let asked = match read_asked(&words) {
         Ok(asked) => asked,
         Err(name) => return refuse(rt, "unknown format: ", name),
     };
+    let behind = words.get(asked.count..).unwrap_or(&[]);
     match asked.mode {
         Mode::Help => {
             println!(rt; "{USAGE}\n{HELP}")?;
             Ok(0)
         }
         Mode::Version => serve_version(rt),
-        _ => serve_asked(rt, asked, words.get(asked.count..).unwrap_or(&[])),
+        Mode::Run | Mode::Count if asked.is_sarif => {
+            refuse(rt, "no log of SARIF is made of a run", b"")
+        }
+        Mode::Run => run_words(rt, behind, false, streams),
+        Mode::Count => run_words(rt, behind, true, streams),
+        _ => serve_asked(rt, asked, behind),
     }
 }
 
 fn main(rt: HostRuntime) -> ExitCode {
-    match serve(&rt) {
+    let streams = StandardStreams {
+        stdin: rt.stdin(),
+        stdout: rt.stdout(),
+        stderr: rt.stderr(),
+    };
+    match serve(&rt, streams) {
         Ok(status) => ExitCode::from(status),
         Err(Failure::Told) => ExitCode::from(NOT_CHECKED),
         Err(Failure::Failed(error)) => {

@@ -1,0 +1,7 @@
+BEGIN {
+    slashes = "/"
+    while (count++ < 300) {
+        slashes = slashes "/"
+        print count >("/dev" slashes "null")
+    }
+}

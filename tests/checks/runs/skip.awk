@@ -1,0 +1,7 @@
+function skip() {
+    next
+}
+
+/east/ { skip() }
+{ print $1 }
+END { skip() }
