@@ -3,12 +3,14 @@ pub mod BeginsAlike
 pub mod CallsAlike
 pub mod ExpressionsAlike
 pub mod FirstRecord
-pub mod Known
+pub mod KnownNames
 pub mod LawOfPieces
 pub mod LinesJoined
+pub mod LoopsAlike
 pub mod PlacesAlike
 pub mod ReadsAlike
 pub mod RecordsFound
 pub mod RecordsPassed
 pub mod RulesAlike
+pub mod SetsAlike
 pub mod ValuesAndFaults

@@ -1,5 +1,5 @@
 -- Places in the record, and what is stored there, do alike.
-use Rattle.std.proofs.Common.{◌≡◌, inl, inr, ℕ, zero, suc, ◌+◌, Bool, true, false, ◌&&◌, ◌||◌, List, Option, Some, None, Result, Ok, Err, pos, negsuc, ℤ, refl, sym, ap, ◌∙◌, le_refl, codes, bytes_eq, cond}
+use Rattle.std.proofs.Common.{◌≡◌, inl, inr, ℕ, zero, suc, ◌+◌, Bool, true, false, ◌&&◌, ◌||◌, List, Option, Some, None, Result, Ok, Err, pos, negsuc, ℤ, refl, ap, le_refl, codes, bytes_eq, cond}
 use Rattle.std.proofs.lemmas.Bool.{cases_Bool, cond-false}
 use Rattle.awk_value.specs.declared.value.Value.{Value}
 use Rattle.awk_value.specs.declared.value.Value.TheVariants as value
@@ -45,7 +45,7 @@ pub within_also : (own known : Names) (name : Option (List ℕ)) → IsWithin kn
 within_also own known None z is = is
 within_also own known (Some x) z is = or_right (own x && bytes_eq x z) (known z) is
 
-set_agrees : (own known : Names) (x : List ℕ) (a : Value) (v w : Values) → AgreeOn known v w → AgreeOn (also own (Some x) known) (with_value v x a) (with_value w x a)
+pub set_agrees : (own known : Names) (x : List ℕ) (a : Value) (v w : Values) → AgreeOn known v w → AgreeOn (also own (Some x) known) (with_value v x a) (with_value w x a)
 set_agrees own known x a v w agrees z is = elim (cases_Bool (bytes_eq x z)) [
   | inl same ↦ rw same refl
   | inr other ↦ ap (λ (b : Value). cond (bytes_eq x z) a b) (agrees z (known_before (own x) (bytes_eq x z) (known z) other is))

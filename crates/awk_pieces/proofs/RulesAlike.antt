@@ -1,29 +1,26 @@
 -- Rules that treat each record for itself do alike on it.
-use Rattle.std.proofs.Common.{◌≡◌, ℕ, suc, ◌+◌, Bool, true, List, [], ◌∷◌, ◌++◌, Result, Ok, Err, refl, sym, ap, le_refl, subst, arith, codes, inl, inr, zero, false, ◌&&◌, ◌||◌, if◌then◌else◌, Option, Some, None, bytes_eq}
-use Rattle.std.proofs.lemmas.Bool.{cases_Bool}
-use Rattle.std.proofs.lemmas.Slice.Eq.{bytes_eq-Decides}
+use Rattle.std.proofs.Common.{◌≡◌, ℕ, suc, ◌+◌, Bool, true, List, [], ◌∷◌, ◌++◌, Result, Ok, Err, refl, sym, ap, le_refl, subst, arith, codes}
 use Rattle.awk_value.specs.declared.value.Value.{Value}
 use Rattle.awk_value.specs.Values.{str_of}
-use Rattle.awk_lex.specs.declared.token.AssignmentOperator.{AssignmentOperator}
-use Rattle.awk_lex.specs.declared.token.AssignmentOperator.TheVariants as assignment
 use Rattle.awk_grammar.specs.declared.tree.PrintForm.{PrintForm}
 use Rattle.awk_grammar.specs.declared.tree.PrintForm.TheVariants as form
-use Rattle.awk_grammar.specs.Tree.{Expr, Exprs, Nil, Cons, PrintList, Bare, Parenthesized, Output, Standard, Redirected, SimpleStatement, Expression, Print, Delete, DeleteAll, Next, NextFile, Break, Continue, Exit, Return, Statement, Empty, Simple, Block, If, IfElse, While, Do, ForIn, For, Statements, NoMore, Then, Pattern, Single, Range, Item, Begin, End, Action, PatternAction, PatternOnly, Function, Number, String, Ere, Name, Element, Field, Group, Call, BuiltIn, Length, PreIncrement, PostIncrement, Getline, PipedGetline, Unary, Binary, Membership, ListMembership, Conditional, Assign, OptionalExpr, NoExpr, AnExpr, OptionalSimple, NoSimple, ASimple}
+use Rattle.awk_grammar.specs.Tree.{Expr, Exprs, Nil, Cons, PrintList, Bare, Parenthesized, Output, Standard, Redirected, SimpleStatement, Expression, Print, Delete, DeleteAll, Next, NextFile, Break, Continue, Exit, Return, Statement, Empty, Simple, Block, If, IfElse, While, Do, ForIn, For, Statements, NoMore, Then, Pattern, Single, Range, Item, Begin, End, Action, PatternAction, PatternOnly, Function, OptionalExpr, NoExpr, AnExpr, OptionalSimple, NoSimple, ASimple}
 use Rattle.awk_semantics.specs.declared.flow.Flow.{Flow}
 use Rattle.awk_semantics.specs.declared.flow.Flow.TheVariants as flow
 use Rattle.awk_semantics.specs.declared.halt.Halt.{Halt}
 use Rattle.awk_semantics.specs.declared.halt.Halt.TheVariants as halt
 use Rattle.awk_semantics.specs.definitions.State.{Effect, Printed, State, Out, Run, go_on, ◌>>=◌, lift, ret}
 use Rattle.awk_semantics.specs.definitions.Operators.{line_of}
-use Rattle.awk_semantics.specs.definitions.Primitives.{print_bytes, print_line, format_values, outside_calls, read_name}
-use Rattle.awk_semantics.specs.definitions.Places.{read_place, store, assign, assign_by}
-use Rattle.awk_semantics.specs.definitions.Semantics.{Functions, eval, eval_all, printed_values, target_of, print_by, print, begin_test, exec_simple, pass_on, exec, exec_all, goes_on, exec_part, turn, ending, unless_ended, repeat_within, repeat}
+use Rattle.awk_semantics.specs.definitions.Primitives.{print_bytes, print_line, format_values, outside_calls}
+use Rattle.awk_semantics.specs.definitions.Semantics.{Functions, eval, eval_all, printed_values, target_of, print_by, print, begin_test, exec_simple, pass_on, exec, exec_all, goes_on, exec_part, turn, repeat_within, repeat}
 use Rattle.awk_semantics.specs.definitions.Items.{run_action, selects, print_record, try_item, try_items, unless_next, until_next}
-use Rattle.awk_pieces.specs.definitions.Pieceable.{keeps_to_record, all_keep_to_record, list_keeps_to_record, is_standard, is_simple_for_itself, is_for_itself, are_for_themselves, pattern_keeps_to_record, is_rule_for_itself, are_rules_for_themselves, is_plain, is_of_record, is_own_place, may_keep_to_record, sets_own, is_part_for_itself, name_of, name_set, name_set_by, name_set_first, also, name_behind, behind}
+use Rattle.awk_pieces.specs.definitions.Pieceable.{keeps_to_record, all_keep_to_record, list_keeps_to_record, is_standard, is_simple_for_itself, is_for_itself, are_for_themselves, pattern_keeps_to_record, is_rule_for_itself, are_rules_for_themselves, may_keep_to_record, is_part_for_itself, name_set, name_set_by, name_set_first, also, name_behind, behind}
 use Rattle.awk_pieces.proofs.Alike.{Outer, Names, OwnsSeparators, Sorts, Values, state_on, own_kinds, ArePlain, AreShown, shown_none, Same, Covers, Alike, then_alike, SetsApart, IsWithin, same_within, alike_within}
-use Rattle.awk_pieces.proofs.ReadsAlike.{left_true, right_true, unmoved, lift_alike, ret_alike, spend_alike, text_alike, tested_alike, choose_alike, name_alike}
-use Rattle.awk_pieces.proofs.PlacesAlike.{or_else, known_before, within_also, put_own}
+use Rattle.awk_pieces.proofs.ReadsAlike.{left_true, right_true, unmoved, lift_alike, ret_alike, spend_alike, text_alike, tested_alike, choose_alike}
+use Rattle.awk_pieces.proofs.PlacesAlike.{within_also}
 use Rattle.awk_pieces.proofs.ExpressionsAlike.{expression_alike}
+use Rattle.awk_pieces.proofs.LoopsAlike.{pass_alike, unless_alike, turn_alike, repeat_within_alike}
+use Rattle.awk_pieces.proofs.SetsAlike.{statement_alike}
 use Rattle.awk_pieces.proofs.ValuesAndFaults.{format_faults}
 
 -- what ends a record
@@ -40,44 +37,20 @@ ended_covers sorts known base base' o p v w k d (Err halt.OutOfSteps) t effects 
 ended_covers sorts known base base' o p v w k d (Err halt.Next) t effects y within c = ended_same _ y c
 ended_covers sorts known base base' o p v w k d (Err halt.Exit) t effects y within c = absurd c
 
-held_itself : (x : List ℕ) → bytes_eq x x ≡ true
-held_itself x = (bytes_eq-Decides x x).1 refl
-
 -- the names that are known: all that both sides share, and those by which a record is cut and made
 pub record Knows (sorts : Sorts) (known : Names) : Type 0 where
   pub within : IsWithin sorts.shared known
   pub owns : OwnsSeparators known
 
-knows_more : (sorts : Sorts) (known more : Names) → IsWithin known more → Knows sorts known → Knows sorts more
+pub knows_more : (sorts : Sorts) (known more : Names) → IsWithin known more → Knows sorts known → Knows sorts more
 knows_more sorts known more grows knows = record {
   within = λ x is. grows x (knows.within x is);
   owns = record { fs = grows (codes "FS") knows.owns.fs; rs = grows (codes "RS") knows.owns.rs; ofs = grows (codes "OFS") knows.owns.ofs; ors = grows (codes "ORS") knows.owns.ors };
 }
 
 -- what is known before a statement is known behind it
-grows : (own known : Names) (s : Statement) → IsWithin known (behind own s known)
+pub grows : (own known : Names) (s : Statement) → IsWithin known (behind own s known)
 grows own known s = within_also own known (name_behind s)
-
--- a name that was known already
-known_already : (own known : Names) (plain : Bool) (x : List ℕ) → known x ≡ true → IsWithin (also own (if plain then Some x else None) known) known
-known_already own known false x is z known' = known'
-known_already own known true x is z known' = elim (cases_Bool (bytes_eq x z)) [
-  | inl same ↦ subst (λ (y : List ℕ). known y ≡ true) ((bytes_eq-Decides x z).0 same) is
-  | inr other ↦ known_before (own x) (bytes_eq x z) (known z) other known'
-]
-
-none_set : (own known : Names) (plain : Bool) → IsWithin (also own (if plain then None else None) known) known
-none_set own known false z is = is
-none_set own known true z is = is
-
-place_kept : (own known : Names) (c : AssignmentOperator) (p e : Expr) → keeps_to_record own known p ≡ true → IsWithin (also own (name_set (Assign c p e)) known) known
-place_kept own known c (Name x) e is = known_already own known (is_plain c) x is
-place_kept own known c p e is = none_set own known (is_plain c)
-
--- an expression that keeps to the record sets no name that isn't known
-names_kept : (own known : Names) (e : Expr) → keeps_to_record own known e ≡ true → IsWithin (also own (name_set e) known) known
-names_kept own known (Assign c p e) is = place_kept own known c p e (left_true (keeps_to_record own known p) _ (right_true (is_of_record own p) _ is))
-names_kept own known e is = λ z k. k
 
 module _ (sorts : Sorts) (apart : SetsApart sorts) (prints : sorts.shows ≡ true) (base : State) (f g : Functions) where
   shown : (effects : List Effect) → ArePlain effects → AreShown sorts.shows effects
@@ -142,68 +115,33 @@ module _ (sorts : Sorts) (apart : SetsApart sorts) (prints : sorts.shows ≡ tru
 
     -- loops
 
-    turn_alike : {m n : Run Flow} → Does m n → Does (turn m) (turn n)
-    unfolding turn
-    turn_alike h = then_alike _ _ (spend_alike sorts known base base) (λ _. then_alike _ _ h (λ c. ret_alike sorts known base base (ending c)))
+    abbrev DoesAt : (A : Type 0) → Run A → Run A → Type 0
+    DoesAt A m n = Does m n
 
-    unless_alike : (ended : Option Flow) {m n : Run Flow} → Does m n → Does (unless_ended ended m) (unless_ended ended n)
-    unless_alike None h = h
-    unless_alike (Some c) h = ret_alike sorts known base base c
+    returns : (A : Type 0) (a : A) → DoesAt A (ret a) (ret a)
+    returns A a = ret_alike sorts known base base a
 
-    repeat_within_alike : (i e : ℕ) {c c' : Run Bool} {s s' : Run Flow} {last last' : Run (Unit {0})} → Does c c' → Does s s' → Does last last' → Does (repeat_within i c s last) (repeat_within (i + e) c' s' last')
-    unfolding repeat_within lift
-    repeat_within_alike zero e c s last = record { covers = λ o p pair v w k d agrees. tt }
-    repeat_within_alike (suc i) e c s last =
-        let rest = repeat_within_alike i e c s last in
-        let more : suc i + e ≡ suc (i + e) = omega arith in
-        rw more (then_alike _ _ c (λ x. choose_alike sorts known base base x (then_alike _ _ (turn_alike s) (λ ended. unless_alike ended (then_alike _ _ last (λ _. rest)))) (ret_alike sorts known base base flow.Normal)))
+    next : (A B : Type 0) (m n : Run A) (h k : A → Run B) → DoesAt A m n → ((a : A) → DoesAt B (h a) (k a)) → DoesAt B (m >>= h) (n >>= k)
+    next A B m n h k x y = then_alike h k x y
+
+    turned : {m n : Run Flow} → Does m n → Does (turn m) (turn n)
+    turned h = turn_alike DoesAt returns next (spend_alike sorts known base base) h
+
+    starved : (n : Run Flow) → Does (lift (Err halt.OutOfSteps)) n
+    unfolding lift
+    starved n = record { covers = λ o p c v w k d agrees. tt }
 
     repeat_alike : {c c' : Run Bool} {s s' : Run Flow} {last last' : Run (Unit {0})} → Does c c' → Does s s' → Does last last' → Does (repeat c s last) (repeat c' s' last')
     unfolding repeat
     repeat_alike {c = c} {c' = c'} {s = s} {s' = s'} {last = last} {last' = last'} condition body end = record {
       covers = λ o p pair v w k d agrees.
           let more : suc k + d ≡ suc (k + d) = omega arith in
-          (subst (λ (n : ℕ). Does (repeat_within (suc k) c s last) (repeat_within n c' s' last')) more (repeat_within_alike (suc k) d condition body end)).covers o p pair v w k d agrees;
+          (subst (λ (n : ℕ). Does (repeat_within (suc k) c s last) (repeat_within n c' s' last')) more (repeat_within_alike DoesAt returns next (spend_alike sorts known base base) starved (suc k) d condition body end)).covers o p pair v w k d agrees;
     }
-
-    -- statements that set a variable of the record
-
-    set_alike : (x : List ℕ) (e : Expr) → sorts.own x ≡ true → keeps_to_record sorts.own known e ≡ true → Alike sorts known (also sorts.own (Some x) known) base base (eval f (Assign assignment.Plain (Name x) e)) (eval g (Assign assignment.Plain (Name x) e))
-    unfolding eval assign_by assign store read_place lift ◌>>=◌ go_on
-    set_alike x e own is =
-        let behind_it = also sorts.own (Some x) known in
-        let held : behind_it x ≡ true = rw (own, held_itself x) refl in
-        let put_it = λ (a : Value). then_alike (λ _. read_name x) (λ _. read_name x) (put_own sorts apart known base base x a own) (λ _. name_alike sorts behind_it base base x held) in
-        record { covers = λ o p c v w k d agrees. (then_alike _ _ (reads e is) put_it).covers o p c v w k d agrees }
-
-    plain_set_alike : (c : AssignmentOperator) (x : List ℕ) (e : Expr) → is_plain c ≡ true → sorts.own x ≡ true → keeps_to_record sorts.own known e ≡ true → Alike sorts known (also sorts.own (name_set (Assign c (Name x) e)) known) base base (eval f (Assign c (Name x) e)) (eval g (Assign c (Name x) e))
-    plain_set_alike assignment.Plain x e plain own keeps = set_alike x e own keeps
-    plain_set_alike assignment.Add x e plain own keeps = absurd (cc)
-    plain_set_alike assignment.Subtract x e plain own keeps = absurd (cc)
-    plain_set_alike assignment.Multiply x e plain own keeps = absurd (cc)
-    plain_set_alike assignment.Divide x e plain own keeps = absurd (cc)
-    plain_set_alike assignment.Remainder x e plain own keeps = absurd (cc)
-    plain_set_alike assignment.Power x e plain own keeps = absurd (cc)
-
-    place_set_alike : (c : AssignmentOperator) (place e : Expr) → is_plain c ≡ true → is_own_place sorts.own place ≡ true → keeps_to_record sorts.own known e ≡ true → Alike sorts known (also sorts.own (name_set (Assign c place e)) known) base base (eval f (Assign c place e)) (eval g (Assign c place e))
-    place_set_alike c (Name x) e plain own keeps = plain_set_alike c x e plain own keeps
-    place_set_alike c place e plain own keeps = absurd (cc)
-
-    own_set_alike : (e : Expr) → sets_own sorts.own known e ≡ true → Alike sorts known (also sorts.own (name_set e) known) base base (eval f e) (eval g e)
-    own_set_alike (Assign c place e) is =
-        let both = right_true (is_plain c) _ is in
-        place_set_alike c place e (left_true (is_plain c) _ is) (left_true (is_own_place sorts.own place) _ both) (right_true (is_own_place sorts.own place) _ both)
-    own_set_alike e is = absurd (cc)
-
-    statement_alike : (e : Expr) → (sets_own sorts.own known e || keeps_to_record sorts.own known e) ≡ true → Alike sorts known (also sorts.own (name_set e) known) base base (eval f e) (eval g e)
-    statement_alike e is = elim (cases_Bool (sets_own sorts.own known e)) [
-      | inl sets ↦ own_set_alike e sets
-      | inr other ↦ let keeps = or_else _ _ is other in alike_within (names_kept sorts.own known e keeps) (reads e keeps)
-    ]
 
     simple_alike : (simple : SimpleStatement) → is_simple_for_itself sorts.own known simple ≡ true → Alike sorts known (also sorts.own (name_set_by simple) known) base base (exec_simple f simple) (exec_simple g simple)
     unfolding exec_simple
-    simple_alike (Expression e) is = then_alike _ _ (spend_alike sorts known base base) (λ _. then_alike _ _ (statement_alike e is) (λ v. ret_alike sorts (also sorts.own (name_set e) known) base base flow.Normal))
+    simple_alike (Expression e) is = then_alike _ _ (spend_alike sorts known base base) (λ _. then_alike _ _ (statement_alike sorts apart known base base (own_kinds known base) knows.owns f g e is) (λ v. ret_alike sorts (also sorts.own (name_set e) known) base base flow.Normal))
     simple_alike (Print form list output) is = then_alike _ _ (print_alike form list output (left_true (list_keeps_to_record sorts.own known list) _ is) (right_true (list_keeps_to_record sorts.own known list) _ is)) (λ _. ret_alike sorts known base base flow.Normal)
     simple_alike Next is = then_alike _ _ (spend_alike sorts known base base) (λ _. next_alike)
     simple_alike Break is = then_alike _ _ (spend_alike sorts known base base) (λ _. ret_alike sorts known base base flow.Break)
@@ -220,11 +158,8 @@ module _ (sorts : Sorts) (apart : SetsApart sorts) (prints : sorts.shows ≡ tru
     part_alike (ASimple simple) is = then_alike _ _ (simple_alike simple is) (λ c. ret_alike sorts (also sorts.own (name_set_by simple) known) base base tt)
 
     -- what follows a statement, where more was known behind that
-    pass_alike : (c : Flow) {more : Names} {m n : Run Flow} → IsWithin known more → Alike sorts more more base base m n → Alike sorts more known base base (pass_on c m) (pass_on c n)
-    pass_alike flow.Normal grows h = alike_within grows h
-    pass_alike flow.Break {more = more} grows h = alike_within grows (ret_alike sorts more base base flow.Break)
-    pass_alike flow.Continue {more = more} grows h = alike_within grows (ret_alike sorts more base base flow.Continue)
-    pass_alike (flow.Return v) {more = more} grows h = alike_within grows (ret_alike sorts more base base (flow.Return v))
+    passed_on : (c : Flow) {more : Names} {m n : Run Flow} → IsWithin known more → Alike sorts more more base base m n → Alike sorts more known base base (pass_on c m) (pass_on c n)
+    passed_on c {more = more} grows h = pass_alike (λ A m n. Alike sorts more known base base m n) (λ A a. alike_within grows (ret_alike sorts more base base a)) c (alike_within grows h)
 
   mutual
     unfolding exec
@@ -248,7 +183,7 @@ module _ (sorts : Sorts) (apart : SetsApart sorts) (prints : sorts.shows ≡ tru
     exec_alike known knows (Do s c) is =
         let tested = tested_alike sorts known base base (reads known knows c (left_true (keeps_to_record sorts.own known c) _ is)) in
         let body = alike_within (grows sorts.own known s) (exec_alike known knows s (right_true (keeps_to_record sorts.own known c) _ is)) in
-        then_alike _ _ (spend_alike sorts known base base) (λ _. then_alike _ _ (turn_alike known knows body) (λ ended. unless_alike known knows ended (repeat_alike known knows tested body (ret_alike sorts known base base tt))))
+        then_alike _ _ (spend_alike sorts known base base) (λ _. then_alike _ _ (turned known knows body) (λ ended. unless_alike (DoesAt known knows) (returns known knows) ended (repeat_alike known knows tested body (ret_alike sorts known base base tt))))
     exec_alike known knows (For first c last s) is =
         let more = also sorts.own (name_set_first first) known in
         let grown = knows_more sorts known more (within_also sorts.own known (name_set_first first)) knows in
@@ -265,7 +200,7 @@ module _ (sorts : Sorts) (apart : SetsApart sorts) (prints : sorts.shows ≡ tru
     exec_all_alike known knows (Then s all) is =
         let more = behind sorts.own s known in
         let rest = exec_all_alike more (knows_more sorts known more (grows sorts.own known s) knows) all (right_true (is_for_itself sorts.own known s) _ is) in
-        then_alike _ _ (exec_alike known knows s (left_true (is_for_itself sorts.own known s) _ is)) (λ c. pass_alike known knows c (grows sorts.own known s) rest)
+        then_alike _ _ (exec_alike known knows s (left_true (is_for_itself sorts.own known s) _ is)) (λ c. passed_on known knows c (grows sorts.own known s) rest)
 
   module _ (known : Names) (knows : Knows sorts known) where
     action_alike : (all : Statements) → are_for_themselves sorts.own known all ≡ true → Does known knows (run_action f all) (run_action g all)

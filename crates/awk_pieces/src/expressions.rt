@@ -2,11 +2,11 @@
 
 ghost use Rattle.std.specs.Prelude.{◌≡◌};
 ghost use Rattle.awk_grammar.specs.View as g;
-ghost use Rattle.awk_pieces.specs.definitions.Pieceable.{is_of_record, third_is_of_record, may_be_called, keeps_to_record, all_keep_to_record, may_keep_to_record, list_keeps_to_record, pattern_keeps_to_record};
+ghost use Rattle.awk_pieces.specs.definitions.Pieceable.{is_own_place, sets_own, is_of_record, third_is_of_record, may_be_called, keeps_to_record, all_keep_to_record, may_keep_to_record, list_keeps_to_record, pattern_keeps_to_record};
 
 use crate::readable::Readable;
 use awk_grammar::tree::{Expr, Pattern, PrintList};
-use awk_lex::token::BuiltIn;
+use awk_lex::token::{AssignmentOperator, BuiltIn};
 
 /// Whether the expression is a place in the record: a field, NF, or a variable of it.
 fn is_of_record<R: Readable>(readable: &R, place: &Expr) -> bool
@@ -95,8 +95,31 @@ pub fn all_keep_to_record<R: Readable>(readable: &R, list: &[Expr]) -> bool
     true
 }
 
+/// Whether the place is a variable of the record.
+fn is_own_place<R: Readable>(readable: &R, place: &Expr) -> bool
+    ensures { result ≡ is_own_place (R.own readable.now) (g.expr_of place.now) }
+{
+    match place {
+        Expr::Name(name) => readable.is_own(name.as_slice()),
+        _ => false,
+    }
+}
+
+/// Whether the expression sets a variable of the record by `=`, to what reads no more than the record and these
+/// variables. The one that is set needn't be one of them.
+pub fn sets_own<R: Readable>(readable: &R, e: &Expr) -> bool
+    ensures { result ≡ sets_own (R.own readable.now) (R.known readable.now) (g.expr_of e.now) }
+{
+    match e {
+        Expr::Assign(AssignmentOperator::Plain, place, e) => {
+            is_own_place(readable, place) && keeps_to_record(readable, e)
+        }
+        _ => false,
+    }
+}
+
 /// Whether the expression does, where it isn't left out.
-pub(crate) fn may_keep_to_record<R: Readable>(readable: &R, e: &Option<Box<Expr>>) -> bool
+pub fn may_keep_to_record<R: Readable>(readable: &R, e: &Option<Box<Expr>>) -> bool
     ensures { result ≡ may_keep_to_record (R.own readable.now) (R.known readable.now) (g.optional_expr_of e.now) }
 {
     match e {

@@ -8,9 +8,13 @@ mod pieceable;
 mod readable;
 mod settings;
 
-pub use expressions::{all_keep_to_record, keeps_to_record, pattern_keeps_to_record};
+pub use expressions::{
+    all_keep_to_record, keeps_to_record, may_keep_to_record, pattern_keeps_to_record, sets_own,
+};
 pub use laws::law_of_pieces;
-pub use names::{leaves_records, tells_apart};
+pub use names::{
+    is_own, leaves_records, name_behind, name_set_first, names_set_in_rules, tells_apart,
+};
 pub use pieceable::is_pieceable;
-pub use readable::Readable;
+pub use readable::{Known, Readable};
 pub use settings::all_only_set;

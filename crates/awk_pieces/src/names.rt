@@ -89,8 +89,8 @@ fn name_set_by(simple: &SimpleStatement) -> Option<&Bytes>
     }
 }
 
-/// The same of the first part of a `for`.
-pub(crate) fn name_set_first(first: &Option<SimpleStatement>) -> Option<&Bytes>
+/// The variable that the first part of a `for` sets by `=`.
+pub fn name_set_first(first: &Option<SimpleStatement>) -> Option<&Bytes>
     ensures { option_map (λ name. name.now) result ≡ name_set_first (g.optional_simple_of first.now) }
 {
     match first {
@@ -100,7 +100,7 @@ pub(crate) fn name_set_first(first: &Option<SimpleStatement>) -> Option<&Bytes>
 }
 
 /// The variable that is set so behind a statement.
-pub(crate) fn name_behind(s: &Statement) -> Option<&Bytes>
+pub fn name_behind(s: &Statement) -> Option<&Bytes>
     ensures { option_map (λ name. name.now) result ≡ name_behind (g.statement_of s.now) }
 {
     match s {
@@ -152,7 +152,11 @@ fn add_all_names(names: &mut Vec<Bytes>, all: &[Statement]) -> Result<(), AllocE
 }
 
 /// The names that the rules of a program set by statements of their own, or as a loop begins.
-pub(crate) fn names_set_in_rules(alloc: Global, items: &[Item]) -> Result<Vec<Bytes>, AllocError>
+///
+/// # Errors
+///
+/// Where memory is refused.
+pub fn names_set_in_rules(alloc: Global, items: &[Item]) -> Result<Vec<Bytes>, AllocError>
     ensures { IfOk result (λ names. names.items ≡ names_set_in_rules (g.items_of items.now)) }
 {
     let mut names = Vec::new(alloc);
@@ -172,7 +176,7 @@ pub(crate) fn has_name(names: &[Bytes], name: &[u8]) -> bool
 }
 
 /// Whether the variable is one of the record, where rules set these names: not one of awk's own.
-pub(crate) fn is_own(names: &[Bytes], name: &[u8]) -> bool
+pub fn is_own(names: &[Bytes], name: &[u8]) -> bool
     ensures { result ≡ is_own names.now name.now }
 {
     has_name(names, name) && !(tells_apart(name) || is_setting_of_awk(name))

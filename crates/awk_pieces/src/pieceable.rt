@@ -3,45 +3,22 @@
 ghost use Rattle.std.specs.Prelude.{◌≡◌, ◌↔◌, true, Ok, IfOk, OnOk};
 ghost use Rattle.awk_grammar.specs.View as g;
 ghost use Rattle.awk_grammar.specs.Tree.{For};
-ghost use Rattle.awk_pieces.specs.definitions.Pieceable.{is_standard, is_own_place, sets_own, is_simple_for_itself, is_part_for_itself, is_for_itself, are_for_themselves, is_rule_for_itself, are_rules_for_themselves, IsPieceable};
+ghost use Rattle.awk_pieces.specs.definitions.Pieceable.{is_standard, is_simple_for_itself, is_part_for_itself, is_for_itself, are_for_themselves, is_rule_for_itself, are_rules_for_themselves, IsPieceable};
 ghost use Rattle.awk_pieces.specs.support.Known.{own_of, known_of};
 
 use crate::expressions::{
-    keeps_to_record, list_keeps_to_record, may_keep_to_record, pattern_keeps_to_record,
+    keeps_to_record, list_keeps_to_record, may_keep_to_record, pattern_keeps_to_record, sets_own,
 };
 use crate::names::{name_behind, name_set_first, names_set_in_rules};
 use crate::readable::{Known, Readable};
 use crate::settings::all_only_set;
-use awk_grammar::tree::{Expr, ForParts, Item, Output, SimpleStatement, Statement, Tree};
-use awk_lex::token::AssignmentOperator;
+use awk_grammar::tree::{ForParts, Item, Output, SimpleStatement, Statement, Tree};
 use std::alloc::{AllocError, Global};
 
 fn is_standard(output: &Output) -> bool
     ensures { result ≡ is_standard (g.output_of output.now) }
 {
     matches!(output, Output::Standard)
-}
-
-/// Whether the place is a variable of the record.
-fn is_own_place(known: &Known, place: &Expr) -> bool
-    ensures { result ≡ is_own_place (own_of known.now) (g.expr_of place.now) }
-{
-    match place {
-        Expr::Name(name) => known.is_own(name.as_slice()),
-        _ => false,
-    }
-}
-
-/// Whether the expression sets a variable of the record, which needn't be known.
-fn sets_own(known: &Known, e: &Expr) -> bool
-    ensures { result ≡ sets_own (own_of known.now) (known_of known.now) (g.expr_of e.now) }
-{
-    match e {
-        Expr::Assign(AssignmentOperator::Plain, place, e) => {
-            is_own_place(known, place) && keeps_to_record(known, e)
-        }
-        _ => false,
-    }
 }
 
 fn is_simple_for_itself(known: &Known, simple: &SimpleStatement) -> bool

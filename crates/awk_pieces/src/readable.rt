@@ -2,8 +2,8 @@
 
 ghost use Rattle.std.specs.Prelude.{◌≡◌, ◌++◌, ℕ, Bool, true, false, List, [], OnOk, take, length};
 ghost use Rattle.std.specs.Option.{option_map};
-ghost use Rattle.awk_pieces.specs.definitions.Pieceable.{listed, no_own};
-ghost use Rattle.awk_pieces.specs.support.Known.{own_of, known_of};
+ghost use Rattle.awk_pieces.specs.definitions.Pieceable.{listed, no_own, is_own};
+ghost use Rattle.awk_pieces.specs.support.Known.{own_of, set_of, known_of};
 
 use crate::names::{add_name, has_name, is_own, tells_apart};
 use awk_value::Bytes;
@@ -45,7 +45,7 @@ impl Readable for Every {
 /// Those that a rule may read: what is the same on each piece, but of the variables of the record those alone that were set
 /// before.
 #[derive(Drop)]
-pub(crate) struct Known<'a> {
+pub struct Known<'a> {
     // the names that rules set
     names: &'a [Bytes],
     // those that were set before, in turn
@@ -54,9 +54,9 @@ pub(crate) struct Known<'a> {
 
 impl<'a> Known<'a> {
     /// What is known as a rule begins, where rules set these names.
-    pub(crate) fn new(alloc: Global, names: &'a [Bytes]) -> Known<'a>
-        ensures names { result.names.now ≡ names.now }
-        ensures set { result.set.items ≡ [] }
+    pub fn new(alloc: Global, names: &'a [Bytes]) -> Known<'a>
+        ensures own { own_of result ≡ is_own names.now }
+        ensures set { set_of result ≡ [] }
     {
         Known {
             names,
@@ -65,24 +65,28 @@ impl<'a> Known<'a> {
     }
 
     /// How many were set.
-    pub(crate) fn len(&self) -> usize
-        ensures { result ≡ length self.now.set.items }
+    pub fn len(&self) -> usize
+        ensures { result ≡ length (set_of self.now) }
     {
         self.set.len()
     }
 
     /// One more is set, where there is a name.
-    pub(crate) fn add(&mut self, name: Option<&Bytes>) -> Result<(), AllocError>
+    ///
+    /// # Errors
+    ///
+    /// Where memory is refused.
+    pub fn add(&mut self, name: Option<&Bytes>) -> Result<(), AllocError>
         ensures own { OnOk result (own_of self.new ≡ own_of self.old) }
-        ensures set { OnOk result (self.new.set.items ≡ self.old.set.items ++ listed (option_map (λ name. name.now) name.entry)) }
+        ensures set { OnOk result (set_of self.new ≡ set_of self.old ++ listed (option_map (λ name. name.now) name.entry)) }
     {
         add_name(&mut self.set, name)
     }
 
     /// So many are known to be set, and no others.
-    pub(crate) fn truncate(&mut self, count: usize)
+    pub fn truncate(&mut self, count: usize)
         ensures own { own_of self.new ≡ own_of self.old }
-        ensures set { self.new.set.items ≡ take count self.old.set.items }
+        ensures set { set_of self.new ≡ take count (set_of self.old) }
     {
         self.set.truncate(count);
     }

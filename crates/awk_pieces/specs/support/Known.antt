@@ -11,5 +11,8 @@ set_known own (x ∷ xs) known = set_known own xs (also own (Some x) known)
 abbrev pub own_of : Known → List ℕ → Bool
 own_of k = is_own k.names.now
 
+abbrev pub set_of : Known → List (List ℕ)
+set_of k = k.set.items
+
 abbrev pub known_of : Known → List ℕ → Bool
 known_of k = set_known (own_of k) k.set.items (knows (own_of k))

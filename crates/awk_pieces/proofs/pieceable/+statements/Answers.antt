@@ -1,4 +1,4 @@
-use Rattle.std.proofs.Common.{◌≡◌, suc, ◌+◌, refl, arith, Bool, true, false, sym, ap, ap₂, ◌∙◌, subst, rules, Ok, IfOk, List, ◌++◌, append_assoc, drop}
+use Rattle.std.proofs.Common.{◌≡◌, suc, ◌+◌, refl, arith, true, sym, ap, ap₂, ◌∙◌, subst, rules, Ok, IfOk, ◌++◌, append_assoc, drop}
 use Rattle.std.proofs.Math.Seq.{drop-cons}
 use Rattle.awk_grammar.specs.Tree as tree
 use Rattle.awk_grammar.specs.View.{expr_of, statement_of, statements_of, optional_simple_of, optional_expr_of}
@@ -7,7 +7,7 @@ use Rattle.awk_kinds.proofs.Rows.{row_is_block}
 use Rattle.awk_pieces.specs.definitions.Pieceable.{also, name_set_first, name_behind, listed, keeps_to_record, may_keep_to_record, is_part_for_itself, is_for_itself, are_for_themselves}
 use Rattle.awk_pieces.specs.support.Known.{own_of, known_of}
 use Rattle.awk_pieces.proofs.Alike.{Names}
-use Rattle.awk_pieces.proofs.Known.{added, unchanged, second_stops, third_stops, fourth_stops, all_hold}
+use Rattle.awk_pieces.proofs.KnownNames.{added, unchanged, second_stops, third_stops, fourth_stops, all_hold}
 use Rattle.awk_pieces.proofs.pieceable.+statements.Goals as goal
 
 pub is_for_itself-returns-in-Block-clause-is : goal.is_for_itself-returns-in-Block-clause-is

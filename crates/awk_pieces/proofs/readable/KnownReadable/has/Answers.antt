@@ -1,6 +1,6 @@
-use Rattle.std.proofs.Common.{◌≡◌, not, sym, ap, ◌∙◌}
+use Rattle.std.proofs.Common.{not, sym, ap, ◌∙◌}
 use Rattle.awk_pieces.specs.support.Known.{own_of}
-use Rattle.awk_pieces.proofs.Known.{own_known, other_known}
+use Rattle.awk_pieces.proofs.KnownNames.{own_known, other_known}
 use Rattle.awk_pieces.proofs.readable.KnownReadable.has.Goals as goal
 
 pub returns-then-is_own : goal.returns-then-is_own

@@ -1,10 +1,9 @@
 -- What is known behind statements that set names.
-use Rattle.std.proofs.Common.{◌≡◌, inl, inr, ℕ, Bool, true, false, ◌&&◌, ◌||◌, not, List, [], ◌∷◌, ◌++◌, Option, Some, None, refl, sym, ap, ap₂, ◌∙◌, bytes_eq}
-use Rattle.std.proofs.lemmas.Bool.{cases_Bool}
+use Rattle.std.proofs.Common.{◌≡◌, ℕ, Bool, true, false, ◌&&◌, ◌||◌, not, List, [], ◌∷◌, ◌++◌, Option, Some, None, refl, sym, ap, ap₂, ◌∙◌, bytes_eq}
 use Rattle.std.proofs.lemmas.Slice.Eq.{bytes_eq-Decides}
 use Rattle.awk_kinds.specs.Names.{has_name}
 use Rattle.awk_pieces.specs.definitions.Pieceable.{tells_apart, listed, also, knows}
-use Rattle.awk_pieces.specs.support.Known.{set_known, own_of, known_of}
+use Rattle.awk_pieces.specs.support.Known.{set_known, own_of, set_of, known_of}
 use Rattle.awk_pieces.specs.declared.readable.Known.{Known}
 use Rattle.awk_pieces.proofs.Alike.{Names}
 
@@ -42,7 +41,7 @@ none_more true k = refl
 none_more false k = refl
 
 -- what is known there: a variable of the record that was set, or what was known before
-known_is : (own : Names) (xs : List (List ℕ)) (known : Names) (z : List ℕ) → set_known own xs known z ≡ ((own z && has_name xs z) || known z)
+pub known_is : (own : Names) (xs : List (List ℕ)) (known : Names) (z : List ℕ) → set_known own xs known z ≡ ((own z && has_name xs z) || known z)
 known_is own [] known z = none_more (own z) (known z)
 known_is own (x ∷ xs) known z =
     known_is own xs (also own (Some x) known) z
@@ -68,13 +67,19 @@ own_known own xs z is = sym (known_is own xs (knows own) z ∙ own_set (own z) (
 pub other_known : (own : Names) (xs : List (List ℕ)) (z : List ℕ) → own z ≡ false → not (tells_apart z) ≡ set_known own xs (knows own) z
 other_known own xs z is = sym (known_is own xs (knows own) z ∙ other_set (own z) (has_name xs z) (tells_apart z) is)
 
--- as the code keeps it
+-- as the code keeps it, where so much was known before
 
-pub added : (k more : Known) (name : Option (List ℕ)) → own_of more ≡ own_of k → more.set.items ≡ k.set.items ++ listed name → known_of more ≡ also (own_of k) name (known_of k)
-added k more name own set = ap₂ (λ (o : Names) (xs : List (List ℕ)). set_known o xs (knows o)) own set ∙ known_behind (own_of k) k.set.items name (knows (own_of k))
+pub added_on : (base : Names → Names) (k more : Known) (name : Option (List ℕ)) → own_of more ≡ own_of k → set_of more ≡ set_of k ++ listed name → set_known (own_of more) (set_of more) (base (own_of more)) ≡ also (own_of k) name (set_known (own_of k) (set_of k) (base (own_of k)))
+added_on base k more name own set = ap₂ (λ (o : Names) (xs : List (List ℕ)). set_known o xs (base o)) own set ∙ known_behind (own_of k) (set_of k) name (base (own_of k))
 
-pub unchanged : (k same : Known) → own_of same ≡ own_of k → same.set.items ≡ k.set.items → known_of same ≡ known_of k
-unchanged k same own set = ap₂ (λ (o : Names) (xs : List (List ℕ)). set_known o xs (knows o)) own set
+pub unchanged_on : (base : Names → Names) (k same : Known) → own_of same ≡ own_of k → set_of same ≡ set_of k → set_known (own_of same) (set_of same) (base (own_of same)) ≡ set_known (own_of k) (set_of k) (base (own_of k))
+unchanged_on base k same own set = ap₂ (λ (o : Names) (xs : List (List ℕ)). set_known o xs (base o)) own set
+
+pub added : (k more : Known) (name : Option (List ℕ)) → own_of more ≡ own_of k → set_of more ≡ set_of k ++ listed name → known_of more ≡ also (own_of k) name (known_of k)
+added k more name own set = added_on knows k more name own set
+
+pub unchanged : (k same : Known) → own_of same ≡ own_of k → set_of same ≡ set_of k → known_of same ≡ known_of k
+unchanged k same own set = unchanged_on knows k same own set
 
 -- where one of the parts of a loop is no such part, the loop is none
 
