@@ -28,6 +28,132 @@ class Choices:
             return f"{self.test_of(value, depth - 1)} {self.pick(['&&', '||'])} {self.test_of(value, depth - 1)}"
         return f"{value()} {self.pick(['==', '!=', '<', '<=', '>=', '>'])} {value()}"
 
+    def in_braces(self, texts):
+        """Statements in braces, in a line or in lines."""
+        if self.chance(3):
+            comment = f" {self.pick(COMMENTS)}" if self.chance(3) else ""
+            return "{" + comment + "\n" + "".join(f"    {text}{self.pick([';', ''])}\n" for text in texts) + "}"
+        return "{ " + "; ".join(texts) + " }"
+
+
+class Rules(Choices):
+    """Writes the statements of rules, in loops too. What is known where a statement stands are the variables that were set
+    before it; `said` writes a statement of the kind that a program is written for."""
+
+    variables = []
+
+    def __init__(self, numbers):
+        super().__init__(numbers)
+        self.depth = 0
+        self.is_careless = False
+
+    # What a record gives.
+
+    def variable(self, known):
+        return self.pick(self.variables if self.is_careless and self.chance(6) else known or ["unset"])
+
+    def place(self, known):
+        """What may be changed: not what a loop counts by."""
+        known = [name for name in known if name in self.variables]
+        return self.variable(known) if known and not self.chance(3) else self.pick(["$1", "$2", "$NF", "$0", "NF"])
+
+    def value(self, known, depth=2):
+        kind, less = self.numbers.randrange(15 if depth > 0 else 7), depth - 1
+        if kind < 2:
+            return f"${self.numbers.randint(0, 4)}"
+        if kind < 5:
+            return self.variable(known)
+        if kind < 7:
+            return self.pick(["NF", "2", '"k{"', "limit", "length", "$NF", '"a b"', "unset"])
+        if kind == 7:
+            return f"({self.value(known, less)})"
+        if kind == 8:
+            return f"({self.value(known, 0)} {self.pick(['+', '-', '*', ''])} {self.value(known, less)})"
+        if kind == 9:
+            return f"{self.pick(['length', 'toupper', 'tolower', 'int'])}({self.value(known, less)})"
+        if kind == 10:
+            return f"substr({self.value(known, less)}, {self.pick(['1, 2', '2'])})"
+        if kind == 11:
+            return f"sprintf(\"%s-%5.2s\", {self.value(known, less)}, {self.value(known, 0)})"
+        if kind == 12:
+            return f"({self.test(known, less)} ? {self.value(known, less)} : {self.value(known, less)})"
+        if kind == 13:
+            return self.exchange(known)
+        return self.change(known, True)
+
+    def test(self, known, depth=1):
+        return self.test_of(lambda: self.value(known, 0), depth)
+
+    def exchange(self, known):
+        target = self.pick(["", f", {self.place(known)}", f", {self.place(known)}"])
+        function, pattern = self.pick(["sub", "gsub"]), self.pick(["/a/", "/[0-9]/", '"x"', "$1"])
+        return f'{function}({pattern}, "{self.pick(["b", "<&>", ""])}"{target})'
+
+    def change(self, known, in_parentheses=False):
+        place = self.place(known)
+        operator = self.pick(["=", "+=", "-=", "*="]) if place != "NF" else "="
+        value = self.pick(["1", "3"]) if place == "NF" else self.value(known, 0)
+        change = self.pick([f"{place}++", f"--{place}", f"{place} {operator} {value}"])
+        return f"({change})" if in_parentheses else change
+
+    # Statements: each gives its text and the variable that is known behind it.
+
+    def setting(self, known):
+        name = self.pick(self.variables)
+        return f"{name} = {self.value(known)}", name
+
+    def loop(self, known, depth):
+        """Each has a variable of its own, so that it ends."""
+        self.depth += 1
+        name, less = f"i{self.depth}", depth - 1
+        end = self.pick(["3", "2", "NF % 4"])
+        kind = self.numbers.randrange(4)
+        if kind < 2:
+            first, last = self.pick([("1", "++"), ("0", " += 1"), ("$1 - $1", "++")])
+            head = f"for ({name} = {first}; {name} < {end}; {name}{last})"
+            return head + self.body(known + [name], less, True), name
+        self.depth += 1
+        head, name = f"for ({name} = 0; {name} < 1; {name}++)", f"i{self.depth}"
+        if kind == 2:
+            inner = f"{name} = 0; while ({name}++ < {end}){self.body(known + [name], less, True)}"
+        else:
+            inner = f"{name} = 0; do {self.block(known + [name], less, True)} while ({name}++ < {end})"
+        return (f"{head} {{ {inner} }}" if self.chance(3) else f"{{ {inner} }}"), None
+
+    def body(self, known, depth, in_loop):
+        """A statement with braces or without them, behind a head."""
+        if self.chance(3):
+            return self.pick([" ", "\n"]) + self.statement(known, 0, in_loop)[0] + ";"
+        return " " + self.block(known, depth, in_loop)
+
+    def statement(self, known, depth, in_loop=False):
+        kind = self.numbers.randrange(12 if depth > 0 else 7)
+        if kind < 2:
+            return self.setting(known)
+        if kind < 4:
+            return self.said(known), None
+        if kind == 4:
+            return self.change(known), None
+        if kind == 5:
+            return self.exchange(known), None
+        if kind == 6:
+            return self.pick(["break", "continue"]) if in_loop else "next" if self.chance(3) else self.said(known), None
+        if kind < 9:
+            return self.loop(known, depth)
+        if kind == 9:
+            return f"if ({self.test(known)}){self.body(known, depth - 1, in_loop)}", None
+        if kind == 10:
+            return f"if ({self.test(known)}){self.body(known, depth - 1, in_loop)} else{self.body(known, depth - 1, in_loop)}", None
+        return self.block(known, depth - 1, in_loop), None
+
+    def block(self, known, depth, in_loop=False):
+        known, texts = list(known), []
+        for _ in range(self.numbers.randint(1, 4)):
+            text, name = self.statement(known, depth, in_loop)
+            texts.append(text)
+            known += [name] if name else []
+        return self.in_braces(texts)
+
 
 def input_of(numbers):
     """Lines of random words, and at times none, or one without a newline."""

@@ -1,5 +1,5 @@
 #!/usr/bin/env python3
-"""Random programs that sum up, over random inputs: one run over the whole beside the two stages that `awk-check --each` and
+"""Random programs that sum up, in loops too, over random inputs: one run over the whole beside the two stages that `awk-check --each` and
 `awk-check --all` print the programs of, over random pieces cut behind newlines. Outputs and statuses are compared byte by
 byte. Each that differs is printed with its program, its input and its pieces; the last line is `N compared, M differ`, and
 the status is 1 where one differs. Where a piece ends with another status than 0, nothing is said of the whole, and nothing
@@ -14,89 +14,44 @@ import sys
 import tempfile
 
 sys.dont_write_bytecode = True
-from inputs import AWK, CHECK, COMMENTS, Choices, input_of, pieces_of, run
+from inputs import AWK, CHECK, COMMENTS, Rules, input_of, pieces_of, run
 
-ARRAYS, VARIABLES = ["n", "bytes", "by_day"], ["s", "count", "m2"]
+ARRAYS, SUMS = ["n", "bytes", "by_day"], ["s", "count", "m2"]
 
 
-class Writer(Choices):
-    """Writes one program."""
+class Writer(Rules):
+    """Writes one program, whose rules have loops and variables of the record."""
+
+    variables = ["t", "out", "x1"]
 
     def __init__(self, numbers):
         super().__init__(numbers)
         self.arrays = numbers.sample(ARRAYS, numbers.randint(0, 3))
-        self.variables = numbers.sample(VARIABLES, numbers.randint(0 if self.arrays else 1, 3))
+        self.sums = numbers.sample(SUMS, numbers.randint(0 if self.arrays else 1, 3))
         self.pairs = [name for name in self.arrays if numbers.randrange(3) == 0]
-
-    # What a record gives.
-
-    def of_record(self, depth):
-        kind, less = self.numbers.randrange(14 if depth > 0 else 6), depth - 1
-        if kind < 2:
-            return f"${self.numbers.randint(0, 4)}"
-        if kind < 6:
-            return self.pick(["NF", "2", '"k{"', "limit", "length", "$NF", '"a b"', "unset"])
-        if kind == 6:
-            return f"({self.of_record(less)})"
-        if kind == 7:
-            return f"{self.of_record(0)} {self.pick(['+', '-', '*'])} {self.of_record(less)}"
-        if kind == 8:
-            return f"length({self.of_record(less)})"
-        if kind == 9:
-            return f"substr({self.of_record(less)}, 1, 2)"
-        if kind == 10:
-            return f"index({self.of_record(less)}, \"b\")"
-        if kind == 11:
-            return f"toupper({self.of_record(less)})"
-        if kind == 12:
-            return f"({self.test(less)} ? {self.of_record(less)} : {self.of_record(less)})"
-        return f"({self.of_record(less)} {self.of_record(0)})"
-
-    def number(self):
-        return self.pick(["$2", "$3", "1", "NF", "length", "2 * $2", "($1 == \"a\")", "index($0, \"b\")", "-1", "$2 + limit"])
-
-    def test(self, depth):
-        return self.test_of(lambda: self.of_record(0), depth)
 
     # Rules.
 
-    def place(self):
-        if self.arrays and (not self.variables or self.chance(2)):
+    def number(self, known):
+        return self.pick(["$2", "$3", "1", "NF", "length", "2 * $2", "($1 == \"a\")", "index($0, \"b\")", "-1", "$2 + limit", self.variable(known)])
+
+    def sum_place(self, known):
+        if self.arrays and (not self.sums or self.chance(2)):
             name = self.pick(self.arrays)
-            key = self.of_record(2) + (f", {self.of_record(1)}" if name in self.pairs else "")
+            key = self.value(known) + (f", {self.value(known, 1)}" if name in self.pairs else "")
             return f"{name}{self.pick(['', ' '])}[{key}]"
-        return self.pick(self.variables)
+        return self.pick(self.sums)
 
-    def addition(self):
-        place = self.place()
-        return self.pick([f"{place}++", f"++{place}", f"{place} += {self.number()}", f"{place} += {self.of_record(1)}"])
-
-    def statement(self, depth):
-        kind = self.numbers.randrange(10 if depth > 0 else 6)
-        if kind < 5:
-            return self.addition()
-        if kind == 5:
-            return self.pick(["next", f"$2 = {self.of_record(1)}", "gsub(/a/, \"b\")", "sub(/b/, \"&&\", $1)", "NF = 2", "$1++"])
-        if kind < 8:
-            return f"if ({self.test(1)}) {self.block(depth - 1)}"
-        if kind == 8:
-            return f"if ({self.test(1)}) {self.block(depth - 1)} else {self.block(depth - 1)}"
-        return self.block(depth - 1)
-
-    def block(self, depth, statement=None):
-        statement = statement or self.statement
-        all_of_it = [statement(depth) for _ in range(self.numbers.randint(1, 3))]
-        if self.chance(3):
-            comment = f" {self.pick(COMMENTS)}" if self.chance(3) else ""
-            return "{" + comment + "\n" + "".join(f"    {each}{self.pick([';', ''])}\n" for each in all_of_it) + "}"
-        return "{ " + "; ".join(all_of_it) + " }"
+    def said(self, known):
+        place = self.sum_place(known)
+        return self.pick([f"{place}++", f"++{place}", f"{place} += {self.number(known)}", f"{place} += {self.value(known, 1)}"])
 
     # END.
 
     def of_sums(self, depth):
         kind, less = self.numbers.randrange(9 if depth > 0 else 5), depth - 1
-        if kind < 2 and self.variables:
-            return self.pick(self.variables)
+        if kind < 2 and self.sums:
+            return self.pick(self.sums)
         if kind < 4 and self.arrays:
             return self.element(depth)
         if kind < 5:
@@ -117,26 +72,29 @@ class Writer(Choices):
         return f"{name}[{key}]"
 
     def walk(self, depth):
-        name = self.pick(self.arrays)
-        body = self.pick([f"print k, {name}[k]", f"printf \"%s=%d;\", k, {name}[k]", f"if ({name}[k] > 1) print {name}[k]"])
-        return f"for (k in {name}) {body}" if self.chance(2) else f"for (k in {name}) {{ {body}; {self.shown(depth - 1)} }}"
+        name, k = self.pick(self.arrays), self.pick(["k", "k"] + self.variables)
+        body = self.pick([f"print {k}, {name}[{k}]", f"printf \"%s=%d;\", {k}, {name}[{k}]", f"if ({name}[{k}] > 1) print {name}[{k}]"])
+        return f"for ({k} in {name}) {body}" if self.chance(2) else f"for ({k} in {name}) {{ {body}; {self.shown(depth - 1)} }}"
 
     def shown(self, depth):
         kind = self.numbers.randrange(6)
         if kind == 0 and depth > 0 and self.arrays:
             return self.walk(depth)
         if kind == 1 and depth > 0:
-            return f"if ({self.of_sums(1)}) {self.block(depth - 1, self.shown)}"
+            return f"if ({self.of_sums(1)}) {self.all_shown(depth - 1)}"
         if kind == 2:
             return f"printf \"%s %s\\n\", {self.of_sums(1)}, {self.of_sums(1)}"
         return f"print {', '.join(self.of_sums(2) for _ in range(self.numbers.randint(1, 3)))}"
+
+    def all_shown(self, depth):
+        return self.in_braces([self.shown(depth) for _ in range(self.numbers.randint(1, 3))])
 
     # A program.
 
     def item(self):
         kind = self.numbers.randrange(5)
-        pattern = self.test(1) + " " if kind < 3 else ""
-        return pattern + self.block(2)
+        pattern = self.test([]) + " " if kind < 3 else ""
+        return pattern + self.block([], 2)
 
     def begin(self):
         return "BEGIN " + self.pick(['{ FS = ":" }', '{ OFS = "-"; limit = 3 }', "{ limit = 2 + 3 }", "{ }", '{\n    OFS = "}" # {\n}'])
@@ -145,8 +103,8 @@ class Writer(Choices):
         items = [self.begin() for _ in range(self.numbers.randint(0, 2))]
         items += [self.item() for _ in range(self.numbers.randint(1, 4))]
         # (each sum is one somewhere)
-        items.append("{ " + "; ".join([f"{name}[$1{', 1' if name in self.pairs else ''}]++" for name in self.arrays] + [f"{name}++" for name in self.variables]) + " }")
-        ends = ["END " + self.block(2, self.shown) for _ in range(self.numbers.randint(1, 2))]
+        items.append("{ " + "; ".join([f"{name}[$1{', 1' if name in self.pairs else ''}]++" for name in self.arrays] + [f"{name}++" for name in self.sums]) + " }")
+        ends = ["END " + self.all_shown(2) for _ in range(self.numbers.randint(1, 2))]
         if self.arrays:
             ends[-1] = "END { " + "; ".join(f"for (k in {name}) print \"{name}\", k, {name}[k]" for name in self.arrays) + " }"
         for end in ends:
