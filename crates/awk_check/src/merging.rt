@@ -1,6 +1,6 @@
 // The two programs that a program which sums up is taken apart into.
 
-ghost use Rattle.std.specs.Prelude.{◌≡◌, ◌≤◌, true, List, [], map, IfOk};
+ghost use Rattle.std.specs.Prelude.{◌≡◌, ◌≤◌, true, List, [], map, Ok, IfOk};
 ghost use Rattle.awk_grammar.specs.Tree.{Item};
 ghost use Rattle.awk_grammar.specs.View.{tree_of};
 ghost use Rattle.awk_semantics.specs.definitions.Items.{has_rule};
@@ -53,29 +53,32 @@ fn all_leave_sums(sums: &[Sum], assigned: &[Assignment]) -> bool
 
 /// Whether a program with these sums and with these words beside it may run in two stages.
 fn may_merge(
+    alloc: Global,
     tree: &Tree,
     sums: &[Sum],
     assigned: &[Assignment],
     operands: &[Vec<u8>],
     limit: u64,
-) -> bool
+) -> Result<bool, AllocError>
     requires { sums_of sums.now ≡ sums_of_program (tree_of tree.now) }
-    ensures mergeable { result ≡ true → IsMergeable (tree_of tree.now) }
-    ensures names { result ≡ true → HasLineNames (tree_of tree.now) }
-    ensures rule { result ≡ true → has_rule (tree_of tree.now) ≡ true }
-    ensures records { result ≡ true → all_leave_records (map pair_of assigned.now) ≡ true }
-    ensures sums { result ≡ true →
+    ensures mergeable { result ≡ Ok true → IsMergeable (tree_of tree.now) }
+    ensures names { result ≡ Ok true → HasLineNames (tree_of tree.now) }
+    ensures rule { result ≡ Ok true → has_rule (tree_of tree.now) ≡ true }
+    ensures records { result ≡ Ok true → all_leave_records (map pair_of assigned.now) ≡ true }
+    ensures sums { result ≡ Ok true →
         all_leave_sums (sums_of_program (tree_of tree.now)) (map pair_of assigned.now) ≡ true }
-    ensures words { result ≡ true → (operands.now ≡ []) × (limit ≡ u64.MAX) }
+    ensures words { result ≡ Ok true → (operands.now ≡ []) × (limit ≡ u64.MAX) }
 {
-    !sums.is_empty()
-        && is_mergeable(tree, sums)
-        && have_line_names(sums)
-        && has_rule(tree)
-        && all_leave_records(assigned)
-        && all_leave_sums(sums, assigned)
-        && operands.is_empty()
-        && limit == u64::MAX
+    Ok(
+        !sums.is_empty()
+            && have_line_names(sums)
+            && has_rule(tree)
+            && all_leave_records(assigned)
+            && all_leave_sums(sums, assigned)
+            && operands.is_empty()
+            && limit == u64::MAX
+            && is_mergeable(alloc, tree, sums)?,
+    )
 }
 
 /// Whether a text is accepted, and its program the one of a stage.
@@ -170,7 +173,7 @@ pub fn derive(
         return Err(AllocError);
     };
     let sums = sums_of(alloc, &tree)?;
-    let finding = if may_merge(&tree, &sums, assigned, operands, limit) {
+    let finding = if may_merge(alloc, &tree, &sums, assigned, operands, limit)? {
         let derived = stage_text(alloc, stage, text, &tokens, &sums)?;
         if is_stage(alloc, stage, &sums, &tree, &derived)? {
             return Ok(DerivedReport {

@@ -1,9 +1,10 @@
 // Why a program that sums up isn't known to run in two stages.
 
 use crate::reasons::{
-    ItemScan, Part, behind_place, exchanged_elsewhere, finding_of, goes_on, is_between, is_set,
+    Part, behind_place, exchanged_elsewhere, finding_of, goes_on, is_between, is_set,
     plain_finding, reason_of_function,
 };
+use crate::statements::{StatementScan, begins_for, have_name, is_of_awk, names_set};
 use awk_findings::Finding;
 use awk_findings::calls::{kind_before, kind_behind};
 use awk_lex::token::{AssignmentOperator, BuiltIn, IncrementOperator, Keyword, Kind, Token};
@@ -14,11 +15,13 @@ use std::alloc::{AllocError, Global};
 const NOT_KNOWN: &[u8] = b"not known to run in two stages: ";
 
 /// A scan for the first reason.
-#[derive(Clone, Copy)]
+#[derive(Drop)]
 struct MergingScan<'a> {
     tokens: &'a [Token],
     sums: &'a [Sum],
-    items: ItemScan,
+    /// The tokens at which rules set names by statements of their own.
+    own: Vec<usize>,
+    statements: StatementScan<'a>,
     /// Where the pattern that is open begins.
     pattern: Option<usize>,
 }
@@ -33,7 +36,7 @@ fn begins_behind(kind: Option<&Kind>) -> bool {
                 | Kind::Newline
                 | Kind::Semicolon
                 | Kind::CloseParenthesis
-                | Kind::Keyword(Keyword::Else)
+                | Kind::Keyword(Keyword::Else | Keyword::Do)
         )
     )
 }
@@ -42,10 +45,11 @@ fn begins_behind(kind: Option<&Kind>) -> bool {
 fn is_addition(tokens: &[Token], at: usize) -> bool {
     match kind_before(tokens, at, 1) {
         Some(Kind::Increment(IncrementOperator::Increment)) => {
-            begins_behind(kind_before(tokens, at, 2))
+            let sign = at.saturating_sub(1);
+            begins_behind(kind_before(tokens, sign, 1)) || begins_for(tokens, sign)
         }
         kind => {
-            begins_behind(kind)
+            (begins_behind(kind) || begins_for(tokens, at))
                 && matches!(
                     behind_place(tokens, at),
                     Some(
@@ -72,6 +76,15 @@ fn reason_of_call_in_end(function: BuiltIn) -> &'static [u8] {
 }
 
 impl<'a> MergingScan<'a> {
+    fn part(&self) -> Part {
+        self.statements.items.part
+    }
+
+    /// Whether some rule sets the name by a statement of its own.
+    fn is_own(&self, name: &[u8]) -> bool {
+        have_name(self.tokens, &self.own, name)
+    }
+
     /// The sum of a name.
     fn sum_of(&self, name: &[u8]) -> Option<&'a Sum> {
         for sum in self.sums {
@@ -82,11 +95,31 @@ impl<'a> MergingScan<'a> {
         None
     }
 
+    /// Why a name that is set in a rule or a pattern, and is no sum, is a reason.
+    fn reason_of_set(&self, at: usize, name: &[u8]) -> &'static [u8] {
+        if name == b"NF".as_slice() || self.statements.sets(at, name) {
+            return b"";
+        }
+        if is_of_awk(name) || !self.is_own(name) {
+            return b" is assigned in a rule, and not summed up";
+        }
+        // (the last part of a `for` is a statement too, and makes nothing known)
+        let is_last = matches!(kind_before(self.tokens, at, 1), Some(Kind::Semicolon));
+        let is_plain = matches!(
+            kind_behind(self.tokens, at, 1),
+            Some(Kind::Assign(AssignmentOperator::Plain))
+        );
+        if self.statements.was_set(name) || is_last && is_plain {
+            return b"";
+        }
+        b" is changed before it is set for the record"
+    }
+
     /// Why a name in a rule or a pattern is a reason.
     fn reason_in_rule(&self, at: usize, name: &[u8]) -> &'static [u8] {
         let is_set = is_set(self.tokens, at);
         if self.sum_of(name).is_some() {
-            return match self.items.part {
+            return match self.part() {
                 Part::Rule if is_addition(self.tokens, at) => b"",
                 _ if is_set => b" is summed up, and set otherwise than by a statement += or ++",
                 _ => b" is summed up, and read for a record",
@@ -98,8 +131,11 @@ impl<'a> MergingScan<'a> {
         if matches!(kind_behind(self.tokens, at, 1), Some(Kind::OpenBracket)) {
             return b" is an array that is not summed up";
         }
-        if is_set && name != b"NF".as_slice() {
-            return b" is assigned in a rule, and not summed up";
+        if is_set {
+            return self.reason_of_set(at, name);
+        }
+        if self.is_own(name) && !self.statements.was_set(name) {
+            return b" is read before it is set for the record";
         }
         b""
     }
@@ -124,6 +160,11 @@ impl<'a> MergingScan<'a> {
         }
     }
 
+    /// Whether a name in END is read there as the last record left it.
+    fn is_read_of_record(&self, at: usize, name: &[u8]) -> bool {
+        self.is_own(name) && !self.statements.gets_keys(at) && !self.statements.was_set(name)
+    }
+
     /// Why a name in END is a reason.
     fn reason_in_end(&self, at: usize, name: &[u8]) -> &'static [u8] {
         if is_set(self.tokens, at) {
@@ -136,6 +177,7 @@ impl<'a> MergingScan<'a> {
         match self.sum_of(name) {
             Some(Sum::ByKey(_)) => b"",
             _ if is_element => b" is an array that is not summed up",
+            _ if self.is_read_of_record(at, name) => b" is set for each record, and read in END",
             _ => b"",
         }
     }
@@ -143,8 +185,10 @@ impl<'a> MergingScan<'a> {
     /// Why a name is a reason.
     fn reason_of_name(&self, at: usize, name: &[u8]) -> &'static [u8] {
         match name {
-            b"merge_what" | b"merge_key" => b" is a name of the programs for the two stages",
-            _ => match self.items.part {
+            b"merge_what" | b"merge_key" if !self.is_own(name) => {
+                b" is a name of the programs for the two stages"
+            }
+            _ => match self.part() {
                 Part::Begin => self.reason_in_begin(at, name),
                 Part::End => self.reason_in_end(at, name),
                 _ => self.reason_in_rule(at, name),
@@ -176,9 +220,14 @@ impl<'a> MergingScan<'a> {
             Keyword::Begin | Keyword::End => b"",
             Keyword::Function => b" stands beside the rules",
             Keyword::Getline => b" reads another input",
-            _ if self.items.part == Part::End => self.reason_of_keyword_in_end(at, keyword),
-            _ if self.items.part == Part::Begin => b" in BEGIN",
+            _ if self.part() == Part::End => self.reason_of_keyword_in_end(at, keyword),
+            _ if self.part() == Part::Begin => b" in BEGIN",
             Keyword::If | Keyword::Else | Keyword::Next => b"",
+            Keyword::While | Keyword::Do | Keyword::Break | Keyword::Continue => b"",
+            Keyword::For => match kind_behind(self.tokens, at, 3) {
+                Some(Kind::Keyword(Keyword::In)) => b" goes over an array, in a rule",
+                _ => b"",
+            },
             Keyword::Exit | Keyword::NextFile => b" passes over the records behind",
             _ => b" in a rule",
         }
@@ -195,15 +244,18 @@ impl<'a> MergingScan<'a> {
         if !reason.is_empty() {
             return Ok(reason);
         }
-        if self.items.part == Part::End {
+        if self.part() == Part::End {
             return Ok(reason_of_call_in_end(function));
         }
-        Ok(match function {
-            BuiltIn::Sub | BuiltIn::Gsub
-                if exchanged_elsewhere(alloc, self.tokens, at)?.is_some() =>
-                b" exchanges in what is no field",
-            _ => b"",
-        })
+        if let BuiltIn::Sub | BuiltIn::Gsub = function {
+            return Ok(match exchanged_elsewhere(alloc, self.tokens, at)? {
+                Some(place) if !self.statements.is_set_before(place) => {
+                    b" exchanges in what is neither a field nor set before for the record"
+                }
+                _ => b"",
+            });
+        }
+        Ok(b"")
     }
 
     /// Why a token is a reason, behind its text, or nothing where it is none.
@@ -212,15 +264,15 @@ impl<'a> MergingScan<'a> {
             Kind::Name(name) => self.reason_of_name(at, name.as_slice()),
             Kind::Keyword(keyword) => self.reason_of_keyword(at, *keyword),
             Kind::BuiltIn(function) => self.reason_of_call(alloc, at, *function)?,
-            Kind::Dollar if self.items.part == Part::End => b" reads a field in END",
-            Kind::Ere(_) if self.items.part == Part::End => b" in END",
-            _ => self.items.reason(kind),
+            Kind::Dollar if self.part() == Part::End => b" reads a field in END",
+            Kind::Ere(_) if self.part() == Part::End => b" in END",
+            _ => self.statements.items.reason(kind),
         })
     }
 
     /// Where a pattern without an action begins that ends before a token.
     fn lone_pattern(&self, at: usize, kind: &Kind) -> Option<usize> {
-        if self.items.lists > 0 || !matches!(kind, Kind::Newline | Kind::Semicolon) {
+        if self.statements.items.lists > 0 || !matches!(kind, Kind::Newline | Kind::Semicolon) {
             return None;
         }
         if goes_on(kind_before(self.tokens, at, 1)) {
@@ -230,13 +282,14 @@ impl<'a> MergingScan<'a> {
     }
 
     /// Goes over a token.
-    fn step(&mut self, at: usize, kind: &Kind) {
-        self.items.step(kind);
-        if self.items.part != Part::Pattern {
+    fn step(&mut self, at: usize, kind: &Kind) -> Result<(), AllocError> {
+        self.statements.step(at, kind)?;
+        if self.part() != Part::Pattern {
             self.pattern = None;
-        } else if !is_between(kind) && self.items.next == Part::Rule {
+        } else if !is_between(kind) && self.statements.items.next == Part::Rule {
             self.pattern = Some(self.pattern.unwrap_or(at));
         }
+        Ok(())
     }
 }
 
@@ -257,7 +310,8 @@ pub(crate) fn merging_finding(
     let mut scan = MergingScan {
         tokens,
         sums,
-        items: ItemScan::new(),
+        own: names_set(alloc, tokens)?,
+        statements: StatementScan::new(alloc, tokens),
         pattern: None,
     };
     for (at, token) in tokens.iter().enumerate() {
@@ -277,7 +331,7 @@ pub(crate) fn merging_finding(
                 b" begins a pattern without an action, which prints",
             );
         }
-        scan.step(at, &token.kind);
+        scan.step(at, &token.kind)?;
     }
     plain_merging_finding(alloc, plain)
 }

@@ -3,9 +3,9 @@
 use crate::reasons::{
     Part, exchanged_elsewhere, finding_of, is_set, plain_finding, reason_of_function,
 };
-use crate::statements::{StatementScan, have_name, is_of_awk};
+use crate::statements::{StatementScan, have_name, is_of_awk, names_set};
 use awk_findings::Finding;
-use awk_findings::calls::{Stretch, kind_before, kind_behind, name_of, only_token};
+use awk_findings::calls::{kind_before, kind_behind};
 use awk_lex::token::{AssignmentOperator, BuiltIn, Keyword, Kind, Token};
 use awk_pieces::tells_apart;
 use std::alloc::{AllocError, Global};
@@ -19,21 +19,6 @@ struct PiecesScan<'a> {
     /// The tokens at which rules set names by statements of their own.
     own: Vec<usize>,
     statements: StatementScan<'a>,
-}
-
-/// The tokens at which rules set names by statements of their own, or as a `for` begins.
-fn names_set(alloc: Global, tokens: &[Token]) -> Result<Vec<usize>, AllocError> {
-    let mut names = Vec::new(alloc);
-    let mut scan = StatementScan::new(alloc, tokens);
-    for (at, token) in tokens.iter().enumerate() {
-        if let Kind::Name(name) = &token.kind {
-            if scan.sets(at, name.as_slice()) {
-                names.push(at)?;
-            }
-        }
-        scan.step(at, &token.kind)?;
-    }
-    Ok(names)
 }
 
 impl PiecesScan<'_> {
@@ -126,17 +111,6 @@ impl PiecesScan<'_> {
         }
     }
 
-    /// Whether what is exchanged in is a variable that was set before.
-    fn is_set_before(&self, place: Stretch) -> bool {
-        match only_token(self.tokens, place) {
-            Some(token) => match name_of(token) {
-                Some(name) => self.statements.was_set(name),
-                None => false,
-            },
-            None => false,
-        }
-    }
-
     /// Why a call of a built-in function is a reason.
     fn reason_of_call(
         &self,
@@ -146,7 +120,7 @@ impl PiecesScan<'_> {
     ) -> Result<&'static [u8], AllocError> {
         if let BuiltIn::Sub | BuiltIn::Gsub = function {
             return Ok(match exchanged_elsewhere(alloc, self.tokens, at)? {
-                Some(place) if !self.is_set_before(place) => {
+                Some(place) if !self.statements.is_set_before(place) => {
                     b" exchanges in what is neither a field nor set before for the record"
                 }
                 _ => b"",

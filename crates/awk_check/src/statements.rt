@@ -1,7 +1,7 @@
 // Where statements begin and end among tokens, and which variables of the record are set there.
 
 use crate::reasons::{ItemScan, Part, goes_on};
-use awk_findings::calls::{kind_before, kind_behind, name_of};
+use awk_findings::calls::{Stretch, kind_before, kind_behind, name_of, only_token};
 use awk_kinds::Special;
 use awk_lex::token::{AssignmentOperator, Keyword, Kind, Token};
 use awk_pieces::tells_apart;
@@ -40,6 +40,8 @@ pub(crate) struct StatementScan<'a> {
     scopes: Vec<Scope>,
     /// The token of the name that is set behind the statement.
     setting: Option<usize>,
+    /// The token of the name that gets keys in what the parentheses stand before.
+    walking: Option<usize>,
     /// The tokens of the names that were set before, in turn.
     set: Vec<usize>,
 }
@@ -59,6 +61,30 @@ pub(crate) fn have_name(tokens: &[Token], places: &[usize], name: &[u8]) -> bool
         }
     }
     false
+}
+
+/// Whether a token is the first in the parentheses of a `for`.
+pub(crate) fn begins_for(tokens: &[Token], at: usize) -> bool {
+    matches!(kind_before(tokens, at, 1), Some(Kind::OpenParenthesis))
+        && matches!(
+            kind_before(tokens, at, 2),
+            Some(Kind::Keyword(Keyword::For))
+        )
+}
+
+/// The tokens at which rules set names by statements of their own, or as a `for` begins.
+pub(crate) fn names_set(alloc: Global, tokens: &[Token]) -> Result<Vec<usize>, AllocError> {
+    let mut names = Vec::new(alloc);
+    let mut scan = StatementScan::new(alloc, tokens);
+    for (at, token) in tokens.iter().enumerate() {
+        if let Kind::Name(name) = &token.kind {
+            if scan.sets(at, name.as_slice()) {
+                names.push(at)?;
+            }
+        }
+        scan.step(at, &token.kind)?;
+    }
+    Ok(names)
 }
 
 /// Whether `else` stands behind a token, over newlines.
@@ -84,6 +110,7 @@ impl<'a> StatementScan<'a> {
             ends_do: false,
             scopes: Vec::new(alloc),
             setting: None,
+            walking: None,
             set: Vec::new(alloc),
         }
     }
@@ -95,17 +122,33 @@ impl<'a> StatementScan<'a> {
             kind_behind(self.tokens, at, 1),
             Some(Kind::Assign(AssignmentOperator::Plain))
         );
-        let is_first = matches!(kind_before(self.tokens, at, 1), Some(Kind::OpenParenthesis))
+        let may_set = self.begins || begins_for(self.tokens, at);
+        self.items.part == Part::Rule && is_plain && may_set && !is_of_awk(name)
+    }
+
+    /// Whether the name at a token gets the keys of an array.
+    pub(crate) fn gets_keys(&self, at: usize) -> bool {
+        begins_for(self.tokens, at)
             && matches!(
-                kind_before(self.tokens, at, 2),
-                Some(Kind::Keyword(Keyword::For))
-            );
-        self.items.part == Part::Rule && is_plain && (self.begins || is_first) && !is_of_awk(name)
+                kind_behind(self.tokens, at, 1),
+                Some(Kind::Keyword(Keyword::In))
+            )
     }
 
     /// Whether the name was set before.
     pub(crate) fn was_set(&self, name: &[u8]) -> bool {
         have_name(self.tokens, &self.set, name)
+    }
+
+    /// Whether these tokens are a name that was set before.
+    pub(crate) fn is_set_before(&self, place: Stretch) -> bool {
+        match only_token(self.tokens, place) {
+            Some(token) => match name_of(token) {
+                Some(name) => self.was_set(name),
+                None => false,
+            },
+            None => false,
+        }
     }
 
     /// Keeps the name that the statement sets, behind it.
@@ -188,6 +231,10 @@ impl<'a> StatementScan<'a> {
             Some(surrounding) if self.items.lists == 1 => {
                 self.head = None;
                 self.enter(surrounding)?;
+                if let Some(at) = self.walking {
+                    self.set.push(at)?;
+                    self.walking = None;
+                }
                 Ok(true)
             }
             _ => Ok(false),
@@ -222,6 +269,9 @@ impl<'a> StatementScan<'a> {
             Kind::Name(name) => {
                 if self.sets(at, name.as_slice()) {
                     self.setting = Some(at);
+                }
+                if self.gets_keys(at) {
+                    self.walking = Some(at);
                 }
                 false
             }

@@ -1,5 +1,5 @@
 -- What adds to a sum does alike on a state and on one that is ahead of it.
-use Rattle.std.proofs.Common.{◌≡◌, inl, inr, ℕ, ◌+◌, ℤ, ◌+ℤ◌, true, false, List, [], ◌∷◌, ◌++◌, Some, Result, Ok, Err, refl, sym, ap, ◌∙◌, subst, le_refl, codes, bytes_eq, map}
+use Rattle.std.proofs.Common.{◌≡◌, inl, inr, ℕ, ◌+◌, ℤ, ◌+ℤ◌, true, false, ◌||◌, List, [], ◌∷◌, ◌++◌, Some, Result, Ok, Err, refl, sym, ap, ◌∙◌, subst, le_refl, codes, bytes_eq, map}
 use Rattle.std.proofs.lemmas.Bool.{cases_Bool}
 use Rattle.awk_value.specs.declared.value.Value.{Value}
 use Rattle.awk_value.specs.declared.fault.ValueFault.{ValueFault}
@@ -22,20 +22,22 @@ use Rattle.awk_semantics.specs.definitions.Operators.{join, one}
 use Rattle.awk_semantics.specs.definitions.Primitives.{joined_key}
 use Rattle.awk_semantics.specs.definitions.Places.{Place, AName, AnElement, assign_by}
 use Rattle.awk_semantics.specs.definitions.Semantics.{Functions, eval, place_of, key_of}
-use Rattle.awk_pieces.specs.definitions.Pieceable.{no_own, tells_apart, keeps_to_record, all_keep_to_record}
-use Rattle.awk_pieces.proofs.Alike.{Outer, OwnsSeparators, Values}
+use Rattle.awk_pieces.specs.definitions.Pieceable.{tells_apart, is_setting_of_awk, name_set, sets_own, also, keeps_to_record, all_keep_to_record}
+use Rattle.awk_pieces.proofs.Alike.{Outer, Names, OwnsSeparators, Values, AgreeOn}
 use Rattle.awk_pieces.proofs.ReadsAlike.{left_true, right_true, unmoved}
 use Rattle.awk_pieces.proofs.ExpressionsAlike.{expression_alike}
+use Rattle.awk_pieces.proofs.SetsAlike.{statement_alike}
 use Rattle.awk_merging.specs.definitions.Sums.{Sum, ByKey, Alone, name_of_sum, is_taken, Holds}
 use Rattle.awk_merging.specs.definitions.LawOfReading.{key_for, number_at, IsAmong}
 use Rattle.awk_merging.specs.definitions.LawOfStates.{Cell, Tables, with_cell, HoldsAll}
 use Rattle.awk_merging.specs.definitions.LawOfDerived.{IsOneOf}
-use Rattle.awk_merging.specs.definitions.Mergeable.{is_sum, is_array_sum, is_derived, knows, is_sum_place}
+use Rattle.awk_merging.specs.definitions.Mergeable.{is_array_sum, is_derived, knows, is_sum_place}
 use Rattle.awk_merging.specs.definitions.LawOfRules.{ahead, IsSound, IsAhead}
 use Rattle.awk_merging.proofs.ProgramSums.{AreApart, AreProper, is_among, is_proper}
 use Rattle.awk_merging.proofs.States.{holds_one, all_hold}
 use Rattle.awk_merging.proofs.Sound.{ahead_cell, sound_cell, one_array, one_variable, not_named, not_sum, not_array, is_aside, not_variable}
-use Rattle.awk_merging.proofs.Summing.{known_no_sum, apart, ret_first, reading_sorts, reading_apart, at, at', Covers, Told, Alike, then_alike, reads_alike}
+use Rattle.awk_merging.proofs.OwnVariables.{AreOwn, not_own}
+use Rattle.awk_merging.proofs.Summing.{apart, ret_first, reading_sorts, reading_apart, Knows, at, at', Covers, Told, Alike, then_alike, reads_alike}
 use Rattle.awk_merging.proofs.Adders.{Added, Adder, plus_by_key, post_by_key, plus_alone_to, post_alone}
 
 -- an expression statement drops the value
@@ -50,22 +52,27 @@ drop_fails : (m : Run Value) (s : State) (h : Halt) → (m s).result ≡ Err h �
 unfolding ◌>>=◌ go_on
 drop_fails m s h is = rw is refl
 
-module _ (xs : List Sum) (proper : AreProper xs) (distinct : AreApart xs) where
-  pub known_special : (x : List ℕ) → is_taken x ≡ true → tells_apart x ≡ false → is_derived x ≡ false → knows xs x ≡ true
-  known_special x taken apart derived = rw (apart, derived, not_sum xs x proper taken) refl
+module _ (own : Names) (xs : List Sum) (owned : AreOwn own xs) (proper : AreProper xs) (distinct : AreApart xs) where
+  pub known_special : (x : List ℕ) → is_taken x ≡ true → tells_apart x ≡ false → is_derived x ≡ false → (tells_apart x || is_setting_of_awk x) ≡ true → knows own xs x ≡ true
+  known_special x taken apart derived awk = rw (apart, derived, not_sum xs x proper taken, not_own own xs owned x awk) refl
 
-  owns : OwnsSeparators (knows xs)
-  owns = record { fs = known_special (codes "FS") refl refl refl; rs = known_special (codes "RS") refl refl refl; ofs = known_special (codes "OFS") refl refl refl; ors = known_special (codes "ORS") refl refl refl }
+  module _ (known : Names) (knew : Knows own xs owned known) (before : Tables) (base base' : State) (o p : Outer) where
+    owns : OwnsSeparators known
+    owns = record {
+      fs = knew.within (codes "FS") (known_special (codes "FS") refl refl refl refl);
+      rs = knew.within (codes "RS") (known_special (codes "RS") refl refl refl refl);
+      ofs = knew.within (codes "OFS") (known_special (codes "OFS") refl refl refl refl);
+      ors = knew.within (codes "ORS") (known_special (codes "ORS") refl refl refl refl);
+    }
 
-  module _ (before : Tables) (base base' : State) (o p : Outer) where
     abbrev Does : {A : Type 0} → Run A → Run A → Type 0
-    Does m n = Alike xs before base base' o p m n
+    Does m n = Alike own xs owned before base base' o p known known m n
 
     abbrev here : RecordPair → List Array → Values → ℕ → State
-    here = at xs before base base' o p
+    here = at own xs owned before base base' o p
 
     abbrev there : RecordPair → List Array → Values → ℕ → State
-    there = at' xs before base base' o p
+    there = at' own xs owned before base base' o p
 
     abbrev opened : State
     opened = record base { outside = o.outside; main = o.main; streams = []; next = 1; status = 0; input_seen = o.seen }
@@ -73,20 +80,20 @@ module _ (xs : List Sum) (proper : AreProper xs) (distinct : AreApart xs) where
     abbrev opened' : State
     opened' = record base' { outside = p.outside; main = p.main; streams = []; next = 1; status = 0; input_seen = p.seen }
 
-    told_as : {A : Type 0} (v w : Values) (k d : ℕ) (x x' y y' : Out A) → x ≡ x' → y ≡ y' → Told xs before base base' o p v w k d x'.result x' y' → Told xs before base base' o p v w k d x.result x y
-    told_as {A = A} v w k d x x' y y' e f told = subst (λ (z : Out A). Told xs before base base' o p v w k d z.result z y) (sym e) (subst (λ (z : Out A). Told xs before base base' o p v w k d x'.result x' z) (sym f) told)
+    told_as : {A : Type 0} (v w : Values) (k d : ℕ) (x x' y y' : Out A) → x ≡ x' → y ≡ y' → Told own xs owned before base base' o p known v w k d x'.result x' y' → Told own xs owned before base base' o p known v w k d x.result x y
+    told_as {A = A} v w k d x x' y y' e f told = subst (λ (z : Out A). Told own xs owned before base base' o p known v w k d z.result z y) (sym e) (subst (λ (z : Out A). Told own xs owned before base base' o p known v w k d x'.result x' z) (sym f) told)
 
-    fails : {A : Type 0} (v w : Values) (k d : ℕ) (x y : Out A) (f : Fault) → x.result ≡ Err (halt.Fault f) → Told xs before base base' o p v w k d x.result x y
-    fails {A = A} v w k d x y f e = inl (subst (λ (r : Result A Halt). Covers xs before base base' o p v w k d r x y) (sym e) tt)
+    fails : {A : Type 0} (v w : Values) (k d : ℕ) (x y : Out A) (f : Fault) → x.result ≡ Err (halt.Fault f) → Told own xs owned before base base' o p known v w k d x.result x y
+    fails {A = A} v w k d x y f e = inl (subst (λ (r : Result A Halt). Covers own xs owned before base base' o p known v w k d r x y) (sym e) tt)
 
     alike_as : {A : Type 0} (m m' n n' : Run A) → m ≡ m' → n ≡ n' → Does m' n' → Does m n
     alike_as {A = A} m m' n n' e f h = subst (λ (z : Run A). Does z n) (sym e) (subst (λ (z : Run A). Does m' z) (sym f) h)
 
     -- what adds to a sum
     module _ (x : Sum) (key : List ℕ) (w : Value) (m : Run Value) (adder : Adder x key w m) (one : IsOneOf x xs) (c : RecordPair) (arrays arrays' : List Array) (v u : Values) (k d : ℕ)
-        (are : IsAhead xs before (here c arrays v k) (there c arrays' u (k + d))) where
-      abbrev own : Tables → ℤ → ℤ
-      own tables n = number_at (tables (name_of_sum x)) (key_for x key) +ℤ n
+        (are : IsAhead own xs before (here c arrays v k) (there c arrays' u (k + d))) (agrees : AgreeOn known v u) where
+      abbrev grown : Tables → ℤ → ℤ
+      grown tables n = number_at (tables (name_of_sum x)) (key_for x key) +ℤ n
 
       among : IsAmong x xs
       among = is_among x xs distinct one
@@ -97,7 +104,7 @@ module _ (xs : List Sum) (proper : AreProper xs) (distinct : AreApart xs) where
       held' : Holds (there c arrays' u (k + d)) x (ahead before are.tables (name_of_sum x))
       held' = (holds_one (there c arrays' u (k + d)) x xs (ahead before are.tables) among are.there).1
 
-      module _ (n : ℤ) (fits : is_in_range (own are.tables n) ≡ true) (fits' : is_in_range (own (ahead before are.tables) n) ≡ true)
+      module _ (n : ℤ) (fits : is_in_range (grown are.tables n) ≡ true) (fits' : is_in_range (grown (ahead before are.tables) n) ≡ true)
           (a : Added opened c arrays v k x (are.tables (name_of_sum x)) key n m) (b : Added opened' c arrays' u (k + d) x (ahead before are.tables (name_of_sum x)) key n m) where
         abbrev cell : Cell
         cell = record { sum = x; key = key; number = n }
@@ -105,10 +112,13 @@ module _ (xs : List Sum) (proper : AreProper xs) (distinct : AreApart xs) where
         same_tables : with_cell (ahead before are.tables) cell ≡ ahead before (with_cell are.tables cell)
         same_tables = ahead_cell before are.tables cell are.sound
 
-        other : (z : List ℕ) → knows xs z ≡ true → bytes_eq (name_of_sum x) z ≡ false
-        other z known = not_named x xs z one (known_no_sum (tells_apart z) (is_derived z) (is_sum xs z) known)
+        other : (z : List ℕ) → known z ≡ true → bytes_eq (name_of_sum x) z ≡ false
+        other z is = not_named x xs z one (knew.no_sum z is)
 
-        still_ahead : IsAhead xs before (here c a.arrays_then a.values k) (there c b.arrays_then b.values (k + d))
+        agrees_still : AgreeOn known a.values b.values
+        agrees_still z e = b.keeps z (is_aside x z (other z e)) ∙ agrees z e ∙ sym (a.keeps z (is_aside x z (other z e)))
+
+        still_ahead : IsAhead own xs before (here c a.arrays_then a.values k) (there c b.arrays_then b.values (k + d))
         still_ahead = record {
           tables = with_cell are.tables cell;
           here = all_hold (here c arrays v k) (here c a.arrays_then a.values k) cell are.tables a.adds a.others xs among are.here;
@@ -116,14 +126,14 @@ module _ (xs : List Sum) (proper : AreProper xs) (distinct : AreApart xs) where
               (all_hold (there c arrays' u (k + d)) (there c b.arrays_then b.values (k + d)) cell (ahead before are.tables) b.adds b.others xs among are.there);
           sound = sound_cell are.tables cell are.sound fits;
           sound_there = subst (λ (t : Tables). (name : List ℕ) → IsSound (t name)) same_tables (sound_cell (ahead before are.tables) cell are.sound_there fits');
-          variables = λ z e. b.keeps z (is_aside x z (other z e)) ∙ are.variables z e ∙ sym (a.keeps z (is_aside x z (other z e)));
+          variables = λ z e. agrees_still z (knew.within z e);
           arrays = λ z e there.
               let apart_from = not_array x xs z one e in
               let none = are.arrays z e there in
               ((none.0.0, a.elements z apart_from ∙ none.0.1), (none.1.0, b.elements z apart_from ∙ none.1.1));
         }
 
-        both_added : Told xs before base base' o p v u k d (drop m (here c arrays v k)).result (drop m (here c arrays v k)) (drop m (there c arrays' u (k + d)))
+        both_added : Told own xs owned before base base' o p known v u k d (drop m (here c arrays v k)).result (drop m (here c arrays v k)) (drop m (there c arrays' u (k + d)))
         both_added =
             told_as v u k d _ (gives flow.Normal (here c a.arrays_then a.values k)) _ (gives flow.Normal (there c b.arrays_then b.values (k + d)))
             (dropped m (here c arrays v k) (here c a.arrays_then a.values k) a.result a.is) (dropped m (there c arrays' u (k + d)) (there c b.arrays_then b.values (k + d)) b.result b.is)
@@ -135,42 +145,47 @@ module _ (xs : List Sum) (proper : AreProper xs) (distinct : AreApart xs) where
               there = b.values;
               left = k;
               are_ahead = still_ahead;
-              keeps = λ z e. a.keeps z (not_variable x xs z one e);
-              keeps' = λ z e. b.keeps z (not_variable x xs z one e);
+              agrees = agrees_still;
+              keeps = λ z e f. a.keeps z (not_variable x xs z one e);
+              keeps' = λ z e f. b.keeps z (not_variable x xs z one e);
               falls = le_refl _;
               is_here = refl;
               silent = refl;
               is_there = refl;
             }))
 
-      by_number : (r : Result ℤ ValueFault) → num_of w ≡ r → Told xs before base base' o p v u k d (drop m (here c arrays v k)).result (drop m (here c arrays v k)) (drop m (there c arrays' u (k + d)))
+      by_number : (r : Result ℤ ValueFault) → num_of w ≡ r → Told own xs owned before base base' o p known v u k d (drop m (here c arrays v k)).result (drop m (here c arrays v k)) (drop m (there c arrays' u (k + d)))
       by_number (Err f) is = fails v u k d _ _ (value_fault f) (drop_fails m _ _ (adder.no_number opened c arrays v k (are.tables (name_of_sum x)) f held is))
-      by_number (Ok n) is = elim (cases_Bool (is_in_range (own are.tables n))) [
+      by_number (Ok n) is = elim (cases_Bool (is_in_range (grown are.tables n))) [
         | inr over ↦ fails v u k d _ _ _ (drop_fails m _ _ (adder.outside opened c arrays v k (are.tables (name_of_sum x)) n held is over))
-        | inl fits ↦ elim (cases_Bool (is_in_range (own (ahead before are.tables) n))) [
+        | inl fits ↦ elim (cases_Bool (is_in_range (grown (ahead before are.tables) n))) [
           | inr over ↦ inr (drop_fails m _ _ (adder.outside opened' c arrays' u (k + d) (ahead before are.tables (name_of_sum x)) n held' is over))
           | inl fits' ↦ both_added n fits fits' (adder.within opened c arrays v k (are.tables (name_of_sum x)) n held is fits) (adder.within opened' c arrays' u (k + d) (ahead before are.tables (name_of_sum x)) n held' is fits')
         ]
       ]
 
     adder_alike : (x : Sum) (key : List ℕ) (w : Value) (m : Run Value) → Adder x key w m → IsOneOf x xs → Does (drop m) (drop m)
-    adder_alike x key w m adder one = record { told = λ c arrays arrays' v u k d are. by_number x key w m adder one c arrays arrays' v u k d are (num_of w) refl }
+    adder_alike x key w m adder one = record { told = λ c arrays arrays' v u k d are agrees. by_number x key w m adder one c arrays arrays' v u k d are agrees (num_of w) refl }
 
     module _ (f g : Functions) where
-      pub reads : (e : Expr) → keeps_to_record no_own (knows xs) e ≡ true → Does (eval f e) (eval g e)
-      reads e is = reads_alike xs before base base' o p (λ arrays arrays' kinds. expression_alike (reading_sorts xs) (reading_apart xs) (knows xs) (record base { arrays = arrays }) (record base' { arrays = arrays' }) kinds owns f g e is)
+      pub reads : (e : Expr) → keeps_to_record own known e ≡ true → Does (eval f e) (eval g e)
+      reads e is = reads_alike own xs owned before base base' o p known knew (λ arrays arrays' kinds. expression_alike (reading_sorts own xs) (reading_apart own xs owned) known (record base { arrays = arrays }) (record base' { arrays = arrays' }) kinds owns f g e is)
+
+      -- and what sets a variable of the record, too, which is known behind it
+      pub sets : (e : Expr) → (sets_own own known e || keeps_to_record own known e) ≡ true → Alike own xs owned before base base' o p known (also own (name_set e) known) (eval f e) (eval g e)
+      sets e is = reads_alike own xs owned before base base' o p known knew (λ arrays arrays' kinds. statement_alike (reading_sorts own xs) (reading_apart own xs owned) known (record base { arrays = arrays }) (record base' { arrays = arrays' }) kinds owns f g e is)
 
       joined : (vs : List Value) → Does (joined_key vs) (joined_key vs)
       unfolding joined_key
-      joined vs = reads_alike xs before base base' o p (λ arrays arrays' kinds. record {
+      joined vs = reads_alike own xs owned before base base' o p known knew (λ arrays arrays' kinds. record {
         covers = λ q r c v w k d agrees.
-            rw (agrees (codes "SUBSEP") (known_special (codes "SUBSEP") refl refl refl)) (unmoved (reading_sorts xs) (knows xs) (record base { arrays = arrays }) (record base' { arrays = arrays' }) q r c v w k d [] (Ok (join (str_of (v (codes "SUBSEP"))) (map str_of vs))) tt refl agrees);
+            rw (agrees (codes "SUBSEP") (knew.within (codes "SUBSEP") (known_special (codes "SUBSEP") refl refl refl refl))) (unmoved (reading_sorts own xs) known (record base { arrays = arrays }) (record base' { arrays = arrays' }) q r c v w k d [] (Ok (join (str_of (v (codes "SUBSEP"))) (map str_of vs))) tt refl agrees);
       })
 
-      keys : (front : List Value) (es : Exprs) → all_keep_to_record no_own (knows xs) es ≡ true → Does (key_of f front es) (key_of g front es)
+      keys : (front : List Value) (es : Exprs) → all_keep_to_record own known es ≡ true → Does (key_of f front es) (key_of g front es)
       unfolding key_of
       keys front Nil is = joined front
-      keys front (Cons e es) is = then_alike xs before base base' o p _ _ (reads e (left_true (keeps_to_record no_own (knows xs) e) _ is)) (λ v. keys (front ++ v ∷ []) es (right_true (keeps_to_record no_own (knows xs) e) _ is))
+      keys front (Cons e es) is = then_alike own xs owned before base base' o p _ _ (reads e (left_true (keeps_to_record own known e) _ is)) (λ v. keys (front ++ v ∷ []) es (right_true (keeps_to_record own known e) _ is))
 
       element_first : (h : Functions) (a : List ℕ) (es : Exprs) (to : Place → Run Value) → drop (place_of h (Element a es) >>= to) ≡ (key_of h [] es >>= λ key. drop (to (AnElement a key)))
       unfolding place_of
@@ -184,13 +199,13 @@ module _ (xs : List Sum) (proper : AreProper xs) (distinct : AreApart xs) where
       name_first h x to = ap drop (ret_first (AName x) to)
 
       -- what adds at each place of a sum
-      placed : (place : Expr) (to to' : Place → Run Value) → is_sum_place xs place ≡ true →
+      placed : (place : Expr) (to to' : Place → Run Value) → is_sum_place own xs known place ≡ true →
           ((a key : List ℕ) → IsOneOf (ByKey a) xs → Does (drop (to (AnElement a key))) (drop (to' (AnElement a key)))) →
           ((x : List ℕ) → IsOneOf (Alone x) xs → Does (drop (to (AName x))) (drop (to' (AName x)))) →
           Does (drop (place_of f place >>= to)) (drop (place_of g place >>= to'))
       placed (Element a es) to to' is by_key by_name =
           alike_as _ _ _ _ (element_first f a es to) (element_first g a es to')
-          (then_alike xs before base base' o p _ _ (keys [] es (right_true (is_array_sum xs a) _ is)) (λ key. by_key a key (one_array xs a (left_true (is_array_sum xs a) _ is))))
+          (then_alike own xs owned before base base' o p _ _ (keys [] es (right_true (is_array_sum xs a) _ is)) (λ key. by_key a key (one_array xs a (left_true (is_array_sum xs a) _ is))))
       placed (Name x) to to' is by_key by_name = alike_as _ _ _ _ (name_first f x to) (name_first g x to') (by_name x (one_variable xs x is))
       placed (Number n) to to' is by_key by_name = absurd (cc)
       placed (String bytes) to to' is by_key by_name = absurd (cc)
@@ -214,20 +229,20 @@ module _ (xs : List Sum) (proper : AreProper xs) (distinct : AreApart xs) where
       abbrev own_name : (x : List ℕ) → IsOneOf (Alone x) xs → is_taken x ≡ false
       own_name x one = is_proper (Alone x) xs proper one
 
-      pub assigned : (place e : Expr) → is_sum_place xs place ≡ true → keeps_to_record no_own (knows xs) e ≡ true → Does (drop (eval f (Assign assignment.Add place e))) (drop (eval g (Assign assignment.Add place e)))
+      pub assigned : (place e : Expr) → is_sum_place own xs known place ≡ true → keeps_to_record own known e ≡ true → Does (drop (eval f (Assign assignment.Add place e))) (drop (eval g (Assign assignment.Add place e)))
       unfolding eval
       assigned place e is kept =
           let valued = λ (q : Place) (h : (w : Value) → Does (drop (assign_by (Some operator.Plus) q w)) (drop (assign_by (Some operator.Plus) q w))).
           alike_as _ _ _ _ (apart (eval f e) (assign_by (Some operator.Plus) q) (λ v. ret flow.Normal)) (apart (eval g e) (assign_by (Some operator.Plus) q) (λ v. ret flow.Normal))
-          (then_alike xs before base base' o p _ _ (reads e kept) h) in
+          (then_alike own xs owned before base base' o p _ _ (reads e kept) h) in
           placed place (λ q. eval f e >>= λ v. assign_by (Some operator.Plus) q v) (λ q. eval g e >>= λ v. assign_by (Some operator.Plus) q v) is
           (λ a key one. valued (AnElement a key) (λ w. adder_alike (ByKey a) key w _ (plus_by_key f a key w) one))
           (λ x one. valued (AName x) (λ w. adder_alike (Alone x) [] w _ (plus_alone_to f x (own_name x one) w) one))
 
-      pub before_one : (place : Expr) → is_sum_place xs place ≡ true → Does (drop (eval f (PreIncrement increment.Increment place))) (drop (eval g (PreIncrement increment.Increment place)))
+      pub before_one : (place : Expr) → is_sum_place own xs known place ≡ true → Does (drop (eval f (PreIncrement increment.Increment place))) (drop (eval g (PreIncrement increment.Increment place)))
       unfolding eval
       before_one place is = placed place _ _ is (λ a key is_one. adder_alike (ByKey a) key one _ (plus_by_key f a key one) is_one) (λ x is_one. adder_alike (Alone x) [] one _ (plus_alone_to f x (own_name x is_one) one) is_one)
 
-      pub behind_one : (place : Expr) → is_sum_place xs place ≡ true → Does (drop (eval f (PostIncrement increment.Increment place))) (drop (eval g (PostIncrement increment.Increment place)))
+      pub behind_one : (place : Expr) → is_sum_place own xs known place ≡ true → Does (drop (eval f (PostIncrement increment.Increment place))) (drop (eval g (PostIncrement increment.Increment place)))
       unfolding eval
       behind_one place is = placed place _ _ is (λ a key is_one. adder_alike (ByKey a) key one _ (post_by_key f a key) is_one) (λ x is_one. adder_alike (Alone x) [] one _ (post_alone f x (own_name x is_one)) is_one)

@@ -7,14 +7,14 @@ use Rattle.awk_kinds.specs.declared.uses.ArrayUse.{ArrayUse}
 use Rattle.awk_kinds.specs.declared.uses.ArrayUse.TheVariants.{Used, Passed}
 use Rattle.awk_kinds.specs.Names.{has_name}
 use Rattle.awk_kinds.specs.definitions.SpecialNames.{special_arrays}
-use Rattle.awk_kinds.specs.definitions.Kinds.{uses_in_expr, uses_in_list, uses_in_simple, uses_in_statement, uses_in_block, uses_in_pattern, outside_functions, uses_in_item, uses_in, is_member, told_by, all_told_by, arrays_of, array_names_of, IsClosed}
+use Rattle.awk_kinds.specs.definitions.Kinds.{uses_in_expr, uses_in_list, uses_in_simple, uses_in_optional_expr, uses_in_optional_simple, uses_in_statement, uses_in_block, uses_in_pattern, outside_functions, uses_in_item, uses_in, is_member, told_by, all_told_by, arrays_of, array_names_of, IsClosed}
 use Rattle.awk_kinds.proofs.ArrayNames.{array_names_are}
 use Rattle.awk_kinds.proofs.ArraysHeld.{in_either, in_left, in_right, one_answer}
 use Rattle.awk_kinds.proofs.LeastArrays.{is_least}
-use Rattle.awk_grammar.specs.Tree.{Expr, Name, Element, PreIncrement, PostIncrement, Assign, SimpleStatement, Expression, Statement, Simple, Block, If, IfElse, Statements, NoMore, Then, Item, Begin, End, Action, PatternAction, PatternOnly, Function}
+use Rattle.awk_grammar.specs.Tree.{Expr, Name, Element, PreIncrement, PostIncrement, Assign, SimpleStatement, Expression, OptionalSimple, NoSimple, ASimple, Statement, Simple, Block, If, IfElse, While, Do, For, Statements, NoMore, Then, Item, Begin, End, Action, PatternAction, PatternOnly, Function}
 use Rattle.awk_merging.specs.definitions.Sums.{Sum, ByKey, Alone, name_of_sum, is_taken, print_sum, print_sums, read_sum, read_sums, reading_rules}
 use Rattle.awk_merging.specs.definitions.LawOfDerived.{IsOneOf}
-use Rattle.awk_merging.specs.definitions.Mergeable.{is_plus, is_plus_one, sum_of_place, sum_added_to, sum_in_simple, sums_in, sums_in_all, sums_in_item, sums_in_items, without_name, each_once, sums_of_program, is_array_sum, IsMergeable}
+use Rattle.awk_merging.specs.definitions.Mergeable.{is_plus, is_plus_one, own_in, sum_of_place, sum_added_to, sum_in_simple, sum_in_part, sums_in, sums_in_all, sums_in_item, sums_in_items, without_name, each_once, sums_of_program, is_array_sum, IsMergeable}
 use Rattle.awk_merging.specs.definitions.Derived.{without_ends, begins_of, ends_of, each_of, all_of}
 use Rattle.awk_merging.proofs.Gathering.{same_key, own_key}
 use Rattle.awk_merging.proofs.ArrayUses.{AreSummed, summed_append, first_of, rest_of, items_summed, uses_joined}
@@ -63,7 +63,7 @@ one_once x (y ∷ ys) (inr later) = inr (one_once x ys (one_without x (name_of_s
 
 -- the rules use the arrays of their sums
 
-module _ (a : List ℕ) where
+module _ (mine : List ℕ → Bool) (a : List ℕ) where
   abbrev IsSummedIn : List Sum → Type 0
   IsSummedIn xs = IsOneOf (ByKey a) xs
 
@@ -80,51 +80,69 @@ module _ (a : List ℕ) where
   no_variable false x (inl same) = cc
   no_variable false x (inr none) = none
 
-  place_used : (place : Expr) → IsSummedIn (sum_of_place place) → HasUse (uses_in_expr outside_functions place) a
-  place_used (Element b es) is = element_used (is_taken b) b (uses_in_list outside_functions es) is
-  place_used (Name x) is = absurd (no_variable (is_taken x) x is)
+  place_used : (place : Expr) → IsSummedIn (sum_of_place mine place) → HasUse (uses_in_expr outside_functions place) a
+  place_used (Element b es) is = element_used (is_taken b || mine b) b (uses_in_list outside_functions es) is
+  place_used (Name x) is = absurd (no_variable (is_taken x || mine x) x is)
   place_used e is = absurd is
 
-  if_used : (b : Bool) (place : Expr) → IsSummedIn (cond b (sum_of_place place) []) → HasUse (uses_in_expr outside_functions place) a
+  if_used : (b : Bool) (place : Expr) → IsSummedIn (cond b (sum_of_place mine place) []) → HasUse (uses_in_expr outside_functions place) a
   if_used true place is = place_used place is
   if_used false place is = absurd is
 
-  added_used : (e : Expr) → IsSummedIn (sum_added_to e) → HasUse (uses_in_expr outside_functions e) a
+  added_used : (e : Expr) → IsSummedIn (sum_added_to mine e) → HasUse (uses_in_expr outside_functions e) a
   added_used (Assign operator place e) is = use_left (uses_in_expr outside_functions place) (uses_in_expr outside_functions e) a (if_used (is_plus operator) place is)
   added_used (PreIncrement operator place) is = if_used (is_plus_one operator) place is
   added_used (PostIncrement operator place) is = if_used (is_plus_one operator) place is
   added_used e is = absurd is
 
-  simple_used : (simple : SimpleStatement) → IsSummedIn (sum_in_simple simple) → HasUse (uses_in_simple outside_functions simple) a
+  simple_used : (simple : SimpleStatement) → IsSummedIn (sum_in_simple mine simple) → HasUse (uses_in_simple outside_functions simple) a
   simple_used (Expression e) is = added_used e is
   simple_used simple is = absurd is
 
+  part_used : (part : OptionalSimple) → IsSummedIn (sum_in_part mine part) → HasUse (uses_in_optional_simple outside_functions part) a
+  part_used NoSimple is = absurd is
+  part_used (ASimple simple) is = simple_used simple is
+
   mutual
-    rule_used : (s : Statement) → IsSummedIn (sums_in s) → HasUse (uses_in_statement outside_functions s) a
+    rule_used : (s : Statement) → IsSummedIn (sums_in mine s) → HasUse (uses_in_statement outside_functions s) a
     rule_used (Simple simple) is = simple_used simple is
     rule_used (Block all) is = rules_used all is
     rule_used (If c s) is = use_right (uses_in_expr outside_functions c) (uses_in_statement outside_functions s) a (rule_used s is)
     rule_used (IfElse c s other) is =
         let here : List ArrayUse = uses_in_statement outside_functions s in
         let there : List ArrayUse = uses_in_statement outside_functions other in
-        use_right (uses_in_expr outside_functions c) (here ++ there) a (elim (one_either (ByKey a) (sums_in s) (sums_in other) is) [ inl one ↦ use_left here there a (rule_used s one) | inr one ↦ use_right here there a (rule_used other one) ])
+        use_right (uses_in_expr outside_functions c) (here ++ there) a (elim (one_either (ByKey a) (sums_in mine s) (sums_in mine other) is) [ inl one ↦ use_left here there a (rule_used s one) | inr one ↦ use_right here there a (rule_used other one) ])
+    rule_used (While c s) is = use_right (uses_in_expr outside_functions c) (uses_in_statement outside_functions s) a (rule_used s is)
+    rule_used (Do s c) is = use_left (uses_in_statement outside_functions s) (uses_in_expr outside_functions c) a (rule_used s is)
+    rule_used (For first c last s) is =
+        let one : List ArrayUse = uses_in_optional_simple outside_functions first in
+        let two : List ArrayUse = uses_in_optional_expr outside_functions c in
+        let three : List ArrayUse = uses_in_optional_simple outside_functions last in
+        let body : List ArrayUse = uses_in_statement outside_functions s in
+        elim (one_either (ByKey a) (sum_in_part mine first) (sum_in_part mine last ++ sums_in mine s) is) [
+          | inl here ↦ use_left one (two ++ (three ++ body)) a (part_used first here)
+          | inr rest ↦ use_right one (two ++ (three ++ body)) a (use_right two (three ++ body) a (elim (one_either (ByKey a) (sum_in_part mine last) (sums_in mine s) rest) [
+            | inl there ↦ use_left three body a (part_used last there)
+            | inr inside ↦ use_right three body a (rule_used s inside)
+          ]))
+        ]
     rule_used s is = absurd is
 
-    rules_used : (all : Statements) → IsSummedIn (sums_in_all all) → HasUse (uses_in_block outside_functions all) a
+    rules_used : (all : Statements) → IsSummedIn (sums_in_all mine all) → HasUse (uses_in_block outside_functions all) a
     rules_used NoMore is = absurd is
     rules_used (Then s all) is =
         let here : List ArrayUse = uses_in_statement outside_functions s in
         let there : List ArrayUse = uses_in_block outside_functions all in
-        elim (one_either (ByKey a) (sums_in s) (sums_in_all all) is) [ inl one ↦ use_left here there a (rule_used s one) | inr one ↦ use_right here there a (rules_used all one) ]
+        elim (one_either (ByKey a) (sums_in mine s) (sums_in_all mine all) is) [ inl one ↦ use_left here there a (rule_used s one) | inr one ↦ use_right here there a (rules_used all one) ]
 
-  item_used : (x : Item) → IsSummedIn (sums_in_item x) → HasUse (uses_in_item x) a
+  item_used : (x : Item) → IsSummedIn (sums_in_item mine x) → HasUse (uses_in_item x) a
   item_used (Action block) is = rules_used block is
   item_used (PatternAction p block) is = use_right (uses_in_pattern outside_functions p) (uses_in_block outside_functions block) a (rules_used block is)
   item_used x is = absurd is
 
-  items_used : (items : List Item) → IsSummedIn (sums_in_items items) → HasUse (uses_in items) a
+  items_used : (items : List Item) → IsSummedIn (sums_in_items mine items) → HasUse (uses_in items) a
   items_used [] is = absurd is
-  items_used (x ∷ items) is = elim (one_either (ByKey a) (sums_in_item x) (sums_in_items items) is) [
+  items_used (x ∷ items) is = elim (one_either (ByKey a) (sums_in_item mine x) (sums_in_items mine items) is) [
     | inl one ↦ use_left (uses_in_item x) (uses_in items) a (item_used x one)
     | inr one ↦ use_right (uses_in_item x) (uses_in items) a (items_used items one)
   ]
@@ -252,16 +270,19 @@ module _ (items : List Item) (mergeable : IsMergeable items) where
   own_summed : (a : List ℕ) → IsOneOf (ByKey a) own → is_array_sum own a ≡ true
   own_summed a is = array_of_one a own is
 
+  abbrev mine : List ℕ → Bool
+  mine = own_in items
+
   pub names_of_items : IsNamed items
-  names_of_items = names_are own items (items_summed own items mergeable) (λ a is. items_used a items (one_once (ByKey a) (sums_in_items items) is))
+  names_of_items = names_are own items (items_summed mine own items mergeable) (λ a is. items_used mine a items (one_once (ByKey a) (sums_in_items mine items) is))
 
   pub names_of_each : IsNamed (each_of items)
   names_of_each = names_are own (each_of items)
-      (uses_joined own (without_ends items) (End (print_sums own) ∷ []) (without_fine own items (items_summed own items mergeable)) (summed_append own (uses_in_block outside_functions (print_sums own)) [] (print_fine own own own_summed) tt))
-      (λ a is. use_behind a (without_ends items) (End (print_sums own) ∷ []) (use_left (uses_in_block outside_functions (print_sums own)) [] a (print_used a own is)))
+      (uses_joined mine own (without_ends items) (End (print_sums own) ∷ []) (without_fine own items (items_summed mine own items mergeable)) (summed_append own (uses_in_block outside_functions (print_sums own)) [] (print_fine own own own_summed) tt))
+      (λ a is. use_behind mine a (without_ends items) (End (print_sums own) ∷ []) (use_left (uses_in_block outside_functions (print_sums own)) [] a (print_used mine a own is)))
 
   pub names_of_all : IsNamed (all_of items)
   names_of_all = names_are own (all_of items)
-      (uses_joined own (begins_of items) (reading_rules own ++ ends_of items) (begins_fine own items (items_summed own items mergeable))
-      (uses_joined own (reading_rules own) (ends_of items) (read_fine own own own_summed) (ends_fine own items (items_summed own items mergeable))))
-      (λ a is. use_behind a (begins_of items) (reading_rules own ++ ends_of items) (use_before a (reading_rules own) (ends_of items) (read_used a own is)))
+      (uses_joined mine own (begins_of items) (reading_rules own ++ ends_of items) (begins_fine own items (items_summed mine own items mergeable))
+      (uses_joined mine own (reading_rules own) (ends_of items) (read_fine own own own_summed) (ends_fine own items (items_summed mine own items mergeable))))
+      (λ a is. use_behind mine a (begins_of items) (reading_rules own ++ ends_of items) (use_before mine a (reading_rules own) (ends_of items) (read_used mine a own is)))

@@ -13,7 +13,7 @@ use Rattle.awk_pieces.proofs.BeginsAlike.{all_names, first_sorts, MaySet, MaySta
 use Rattle.awk_pieces.proofs.ReadsAlike.{left_true, right_true, ret_alike}
 use Rattle.awk_pieces.proofs.RecordsPassed.{EndsWell}
 use Rattle.awk_merging.specs.definitions.Sums.{Sum}
-use Rattle.awk_merging.specs.definitions.Mergeable.{is_sum, is_derived, knows, sets_no_sum, only_sets_others, all_only_set_others, is_mergeable_item, are_mergeable}
+use Rattle.awk_merging.specs.definitions.Mergeable.{is_sum, is_derived, is_other, sets_no_sum, only_sets_others, all_only_set_others, is_mergeable_item, are_mergeable}
 use Rattle.awk_merging.proofs.Summing.{known_no_sum}
 
 -- a variable that may be set before the records: no sum
@@ -26,7 +26,7 @@ narrow xs x is = left_true (leaves_records x) _ is
 pub and_both : (a b : Bool) → a ≡ true → b ≡ true → (a && b) ≡ true
 and_both a b e f = rw (e, f) refl
 
-may_name : (xs : List Sum) (x : List ℕ) → leaves_records x ≡ true → knows xs x ≡ true → may_begin xs x ≡ true
+may_name : (xs : List Sum) (x : List ℕ) → leaves_records x ≡ true → is_other xs x ≡ true → may_begin xs x ≡ true
 may_name xs x leaves known = and_both (leaves_records x) (not (is_sum xs x)) leaves (ap not (known_no_sum (tells_apart x) (is_derived x) (is_sum xs x) known))
 
 may_set : (xs : List Sum) (e : Expr) → is_setting e ≡ true → sets_no_sum xs e ≡ true → MaySet (may_begin xs) e
@@ -42,11 +42,11 @@ may_all xs NoMore is others = tt
 may_all xs (Then s all) is others =
     (may_statement xs s (left_true (only_sets s) _ is) (left_true (only_sets_others xs s) _ others), may_all xs all (right_true (only_sets s) _ is) (right_true (only_sets_others xs s) _ others))
 
-module _ (xs : List Sum) (base base' : State) (names : SameNames base base') (f g : Functions) where
+module _ (own : Names) (xs : List Sum) (base base' : State) (names : SameNames base base') (f g : Functions) where
   abbrev Begins : {A : Type 0} → Run A → Run A → Type 0
   Begins m n = Alike (first_sorts (may_begin xs)) all_names all_names base base' m n
 
-  item_alike : (x : Item) → is_mergeable_item xs x ≡ true → Begins (begin_item f x) (begin_item g x)
+  item_alike : (x : Item) → is_mergeable_item own xs x ≡ true → Begins (begin_item f x) (begin_item g x)
   unfolding begin_item
   item_alike (Begin block) is =
       let sets = left_true (all_only_set block) _ is in
@@ -57,10 +57,10 @@ module _ (xs : List Sum) (base base' : State) (names : SameNames base base') (f 
   item_alike (PatternOnly p) is = absurd (cc)
   item_alike (Function name parameters block) is = absurd (cc)
 
-  pub begins_alike : (items : List Item) → are_mergeable xs items ≡ true → Begins (begin_items f items) (begin_items g items)
+  pub begins_alike : (items : List Item) → are_mergeable own xs items ≡ true → Begins (begin_items f items) (begin_items g items)
   unfolding begin_items
   begins_alike [] is = ret_alike (first_sorts (may_begin xs)) all_names base base' tt
-  begins_alike (x ∷ items) is = then_alike _ _ (item_alike x (left_true (is_mergeable_item xs x) _ is)) (λ _. begins_alike items (right_true (is_mergeable_item xs x) _ is))
+  begins_alike (x ∷ items) is = then_alike _ _ (item_alike x (left_true (is_mergeable_item own xs x) _ is)) (λ _. begins_alike items (right_true (is_mergeable_item own xs x) _ is))
 
 -- both sides go on from states with the same record and variables
 pub record Settled (may : Names) (base base' : State) (o p : Outer) (v : Values) (k d : ℕ) (x y : Out (Unit {0})) : Type 0 where

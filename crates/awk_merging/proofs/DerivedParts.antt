@@ -1,5 +1,5 @@
 -- What the parts of the derived programs do.
-use Rattle.std.proofs.Common.{◌≡◌, ℕ, suc, true, List, [], ◌∷◌, ◌++◌, Result, Ok, Err, refl, ap, ◌∙◌, append-nil}
+use Rattle.std.proofs.Common.{◌≡◌, ℕ, suc, Bool, true, List, [], ◌∷◌, ◌++◌, Result, Ok, Err, refl, ap, ◌∙◌, append-nil}
 use Rattle.awk_grammar.specs.Tree.{Statements, Pattern, Single, Range, Item, Begin, End, Action, PatternAction, PatternOnly, Function}
 use Rattle.awk_semantics.specs.declared.halt.Halt.{Halt}
 use Rattle.awk_semantics.specs.definitions.State.{Effect, State, Out, Run, go_on, ◌>>=◌, lift, ret, gives}
@@ -7,9 +7,9 @@ use Rattle.awk_semantics.specs.definitions.Semantics.{Functions}
 use Rattle.awk_semantics.specs.definitions.Items.{selects, run_action, try_item, try_items, begin_item, begin_items, end_item, end_items}
 use Rattle.awk_pieces.proofs.ReadsAlike.{left_true, right_true}
 use Rattle.awk_merging.specs.definitions.Sums.{Sum, print_sums, read_sums, reading_rules}
-use Rattle.awk_merging.specs.definitions.Mergeable.{sums_in_items, sums_of_program, is_mergeable_item, are_mergeable}
+use Rattle.awk_merging.specs.definitions.Mergeable.{own_in, sums_of_program, is_mergeable_item, are_mergeable}
 use Rattle.awk_merging.specs.definitions.Derived.{without_ends, begins_of, ends_of}
-use Rattle.awk_merging.proofs.ProgramSums.{is_among, apart_once, is_proper, proper_once, proper_items}
+use Rattle.awk_merging.proofs.ProgramSums.{is_among, apart_sums, is_proper, proper_sums}
 use Rattle.awk_merging.specs.definitions.LawOfDerived.{LawOfDerived}
 
 -- what goes on alike does alike
@@ -39,18 +39,18 @@ abbrev AreSingle : List Item → Type 0
 AreSingle [] = Unit {0}
 AreSingle (x ∷ xs) = IsSingleItem x × AreSingle xs
 
-item_single : (sums : List Sum) (x : Item) → is_mergeable_item sums x ≡ true → IsSingleItem x
-item_single sums (Begin block) is = tt
-item_single sums (End block) is = tt
-item_single sums (Action block) is = tt
-item_single sums (PatternAction (Single e) block) is = tt
-item_single sums (PatternAction (Range from to) block) is = absurd (cc)
-item_single sums (PatternOnly p) is = absurd (cc)
-item_single sums (Function f parameters block) is = tt
+item_single : (own : List ℕ → Bool) (sums : List Sum) (x : Item) → is_mergeable_item own sums x ≡ true → IsSingleItem x
+item_single own sums (Begin block) is = tt
+item_single own sums (End block) is = tt
+item_single own sums (Action block) is = tt
+item_single own sums (PatternAction (Single e) block) is = tt
+item_single own sums (PatternAction (Range from to) block) is = absurd (cc)
+item_single own sums (PatternOnly p) is = absurd (cc)
+item_single own sums (Function f parameters block) is = tt
 
-all_single : (sums : List Sum) (xs : List Item) → are_mergeable sums xs ≡ true → AreSingle xs
-all_single sums [] is = tt
-all_single sums (x ∷ xs) is = (item_single sums x (left_true (is_mergeable_item sums x) _ is), all_single sums xs (right_true (is_mergeable_item sums x) _ is))
+all_single : (own : List ℕ → Bool) (sums : List Sum) (xs : List Item) → are_mergeable own sums xs ≡ true → AreSingle xs
+all_single own sums [] is = tt
+all_single own sums (x ∷ xs) is = (item_single own sums x (left_true (is_mergeable_item own sums x) _ is), all_single own sums xs (right_true (is_mergeable_item own sums x) _ is))
 
 module _ (functions : Functions) where
   by_number : (m n : ℕ) (x : Item) (s : State) → IsSingleItem x → try_item functions m x s ≡ try_item functions n x s
@@ -207,10 +207,10 @@ module _ (functions : Functions) where
 
 pub law_of_derived : LawOfDerived
 law_of_derived = record {
-  sums_apart = λ items x is. is_among x (sums_of_program items) (apart_once (sums_in_items items)) is;
-  sums_proper = λ items x is. is_proper x (sums_of_program items) (proper_once (sums_in_items items) (proper_items items)) is;
+  sums_apart = λ items x is. is_among x (sums_of_program items) (apart_sums items) is;
+  sums_proper = λ items x is. is_proper x (sums_of_program items) (proper_sums items) is;
   each_begins = λ functions items s. each_begun functions (print_sums (sums_of_program items)) items s;
-  each_tries = λ functions items mergeable m n s. each_tried functions m n (print_sums (sums_of_program items)) items s (all_single (sums_of_program items) items mergeable);
+  each_tries = λ functions items mergeable m n s. each_tried functions m n (print_sums (sums_of_program items)) items s (all_single (own_in items) (sums_of_program items) items mergeable);
   each_ends = λ functions items s. each_ended functions (print_sums (sums_of_program items)) items s;
   all_begins = λ functions items s. begins_first functions items (reading_rules (sums_of_program items) ++ ends_of items) s (λ t. all_begin_none functions (sums_of_program items) items t);
   all_tries = λ functions items m n s.

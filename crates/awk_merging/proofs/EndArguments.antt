@@ -90,24 +90,24 @@ abbrev pub AreSome : List Value → Type 0
 AreSome [] = ⊥
 AreSome (v ∷ vs) = Unit {0}
 
-pub bare_shown : (xs : List Sum) (e : Expr) → reads_sums xs e ≡ true → IsShownName (bare_name e)
-bare_shown xs (Name x) is = is
-bare_shown xs (Number n) is = tt
-bare_shown xs (String bytes) is = tt
-bare_shown xs (Ere text) is = tt
-bare_shown xs (Element x es) is = tt
-bare_shown xs (Field a) is = tt
-bare_shown xs (Group a) is = tt
-bare_shown xs (Call c es) is = tt
-bare_shown xs (BuiltIn c es) is = tt
-bare_shown xs Length is = tt
-bare_shown xs (PreIncrement c p) is = tt
-bare_shown xs (PostIncrement c p) is = tt
-bare_shown xs (Getline p file) is = tt
-bare_shown xs (PipedGetline c p) is = tt
-bare_shown xs (Unary c a) is = tt
-bare_shown xs (Binary c a b) is = tt
-bare_shown xs (Membership a x) is = tt
-bare_shown xs (ListMembership es x) is = tt
-bare_shown xs (Conditional c a b) is = tt
-bare_shown xs (Assign c p a) is = tt
+pub bare_shown : (xs : List Sum) (shown : List ℕ → Bool) → ((x : List ℕ) → shown x ≡ true → is_shown x ≡ true) → (e : Expr) → reads_sums xs shown e ≡ true → IsShownName (bare_name e)
+bare_shown xs shown within (Name x) is = within x is
+bare_shown xs shown within (Number n) is = tt
+bare_shown xs shown within (String bytes) is = tt
+bare_shown xs shown within (Ere text) is = tt
+bare_shown xs shown within (Element x es) is = tt
+bare_shown xs shown within (Field a) is = tt
+bare_shown xs shown within (Group a) is = tt
+bare_shown xs shown within (Call c es) is = tt
+bare_shown xs shown within (BuiltIn c es) is = tt
+bare_shown xs shown within Length is = tt
+bare_shown xs shown within (PreIncrement c p) is = tt
+bare_shown xs shown within (PostIncrement c p) is = tt
+bare_shown xs shown within (Getline p file) is = tt
+bare_shown xs shown within (PipedGetline c p) is = tt
+bare_shown xs shown within (Unary c a) is = tt
+bare_shown xs shown within (Binary c a b) is = tt
+bare_shown xs shown within (Membership a x) is = tt
+bare_shown xs shown within (ListMembership es x) is = tt
+bare_shown xs shown within (Conditional c a b) is = tt
+bare_shown xs shown within (Assign c p a) is = tt

@@ -18,6 +18,8 @@ pub mod FirstStates
 pub mod Gathering
 pub mod LawMerged
 pub mod MergedRuns
+pub mod OthersKnown
+pub mod OwnVariables
 pub mod PiecesGathered
 pub mod Prepared
 pub mod ProgramSums

@@ -20,6 +20,7 @@ use Rattle.awk_pieces.specs.definitions.LawOfPieces.{Gives}
 use Rattle.awk_pieces.proofs.Alike.{Values, state_on as plain_state}
 use Rattle.awk_pieces.proofs.RecordsFound.{over}
 use Rattle.awk_pieces.proofs.FirstRecord.{with_opening, opened}
+use Rattle.awk_pieces.proofs.ReadsAlike.{left_true, right_true}
 use Rattle.awk_merging.specs.definitions.Gathering.{Table}
 use Rattle.awk_merging.specs.definitions.Sums.{Sum, ByKey, Alone, name_of_sum, number_or_none, alone, Holds}
 use Rattle.awk_merging.specs.definitions.LawOfCells.{IsLine}
@@ -27,13 +28,14 @@ use Rattle.awk_merging.specs.definitions.LawOfReading.{number_at}
 use Rattle.awk_merging.specs.definitions.LawOfStates.{Cells, text_of_cells, Tables, behind_cells, is_counted, steps_of}
 use Rattle.awk_merging.specs.definitions.LawOfDerived.{IsOneOf}
 use Rattle.awk_merging.specs.definitions.LawOfAll.{state_begun, WillRead, EndsWith}
-use Rattle.awk_merging.specs.definitions.Mergeable.{sums_of_program, is_array_sum, is_variable_sum, is_derived, is_shown, IsMergeable}
+use Rattle.awk_merging.specs.definitions.Mergeable.{own_in, sums_of_program, is_array_sum, is_variable_sum, is_derived, is_shown, shows, IsMergeable}
 use Rattle.awk_merging.specs.definitions.Derived.{all_of}
 use Rattle.awk_merging.specs.definitions.LawOfRules.{IsNoArray}
 use Rattle.awk_merging.specs.definitions.LawOfEnd.{SameArray, ShowAlike}
 use Rattle.awk_merging.proofs.Gathering.{same_key, not_both, apart_turned}
 use Rattle.awk_merging.proofs.EndShown.{law_of_end}
 use Rattle.awk_merging.proofs.PiecesGathered.{outputs_read, finish, records_of, StartsLines, IsReadyFor, PieceRun, Holding, Gathered, texts, states, steps_of_all, AllJoin, all_gathered, opened_is, counts_none, none_held, action, opens, behind, lines, xs, distinct}
+use Rattle.awk_merging.proofs.OwnVariables.{not_true}
 use Rattle.awk_merging.proofs.ProgramSums.{is_among}
 use Rattle.awk_merging.proofs.SecondRun.{same_held, law_of_all}
 use Rattle.awk_merging.proofs.Sound.{one_array, one_variable}
@@ -125,7 +127,7 @@ module _ (items : List Item) (mergeable : IsMergeable items) (named : (x : Sum) 
         holds = none_held items mergeable named c v starts base unopened text steps;
         sound = λ name. tt;
         others = λ x no_sum apart. ((unopened.others x no_sum apart).0, (unopened.others x no_sum apart).1);
-        steady = λ z no_sum nr fnr. refl;
+        steady = λ z no_sum not nr fnr. refl;
         counts = counts_none items mergeable named c v starts;
         fits = omega (arith, fits);
       }
@@ -173,14 +175,14 @@ module _ (items : List Item) (mergeable : IsMergeable items) (named : (x : Sum) 
         held_there : (x : Sum) → IsOneOf x sums → Holds ends.before x (tables (name_of_sum x))
         held_there x one = (holds_one ends.before x sums tables (is_among x sums (distinct items mergeable named c v starts) one) ends.holds).1
 
-        same_variable : (x : List ℕ) → is_shown x ≡ true → ends.before.variables x ≡ last.variables x
-        same_variable x shown = elim (cases_Bool (is_variable_sum sums x)) [
+        same_variable : (x : List ℕ) → shows (own_in items) x ≡ true → ends.before.variables x ≡ last.variables x
+        same_variable x may = let shown = left_true (is_shown x) _ may in elim (cases_Bool (is_variable_sum sums x)) [
           | inl is ↦ let one = one_variable sums x is in same_number last ends.before x (tables x) (held_here (Alone x) one) (held_there (Alone x) one)
           | inr none ↦
               let name = shown_apart x (codes "FILENAME") shown refl in
               let nr = shown_apart x (codes "NR") shown refl in
               let fnr = shown_apart x (codes "FNR") shown refl in
-              ends.keeps x none (shown_uncounted x shown) name ∙ sym (g.steady x none nr fnr ∙ rw (fnr, name) refl)
+              ends.keeps x none (shown_uncounted x shown) name ∙ sym (g.steady x none (not_true (own_in items x) (right_true (is_shown x) _ may)) nr fnr ∙ rw (fnr, name) refl)
         ]
 
         no_array_here : (x : List ℕ) → is_shown x ≡ true → is_array_sum sums x ≡ false → IsNoArray last x
@@ -206,7 +208,7 @@ module _ (items : List Item) (mergeable : IsMergeable items) (named : (x : Sum) 
               record { named = there.0 ∙ sym here.0; elements = there.1 ∙ sym here.1 }
         ]
 
-        show_alike : ShowAlike sums last ends.before
+        show_alike : ShowAlike (shows (own_in items)) sums last ends.before
         show_alike = record {
           variables = same_variable;
           arrays = same_array;

@@ -20,7 +20,7 @@ use Rattle.awk_semantics.specs.definitions.Meaning.{outcome_of, with_bytes, outp
 use Rattle.awk_streams.specs.Openings.{StandardOutput, StandardError, Opening}
 use Rattle.awk_pieces.specs.definitions.Pieceable.{tells_apart}
 use Rattle.awk_pieces.specs.definitions.LawOfPieces.{Gives}
-use Rattle.awk_pieces.proofs.Alike.{Values, state_on as plain_state}
+use Rattle.awk_pieces.proofs.Alike.{Names, Values, state_on as plain_state}
 use Rattle.awk_pieces.proofs.LinesJoined.{newline, Joins}
 use Rattle.awk_pieces.proofs.RecordsFound.{over, Counts, record_over}
 use Rattle.awk_pieces.proofs.FirstRecord.{OpensLines, with_opening, opened, first_opens}
@@ -32,7 +32,7 @@ use Rattle.awk_merging.specs.definitions.LawOfStates.{Cells, text_of_cells, Tabl
 use Rattle.awk_merging.specs.definitions.LawOfSums.{bytes_of, cells_of, held_by, IsFor, AreFor}
 use Rattle.awk_merging.specs.definitions.LawOfDerived.{IsOneOf}
 use Rattle.awk_merging.specs.definitions.LawOfAll.{state_begun}
-use Rattle.awk_merging.specs.definitions.Mergeable.{sums_of_program, sums_in_items, is_sum, is_array_sum, is_derived, knows, IsMergeable}
+use Rattle.awk_merging.specs.definitions.Mergeable.{own_in, sums_of_program, is_sum, is_array_sum, is_derived, knows, IsMergeable}
 use Rattle.awk_merging.specs.definitions.Derived.{each_of}
 use Rattle.awk_merging.specs.definitions.LawOfRules.{ahead, IsSound, IsNoArray, IsAhead}
 use Rattle.awk_merging.specs.definitions.LawOfMerging.{HasShortLines}
@@ -41,7 +41,8 @@ use Rattle.awk_merging.proofs.Cells.{apart_from_taken}
 use Rattle.awk_merging.proofs.CellsAdded.{added_append, sound_behind, IsReady, all_added}
 use Rattle.awk_merging.proofs.CellsTold.{Fails, AreLines, AreSound, PrintsLines, printed_or_failed}
 use Rattle.awk_merging.proofs.DerivedParts.{law_of_derived}
-use Rattle.awk_merging.proofs.ProgramSums.{AreApart, AreProper, is_among, apart_once, proper_once, proper_items}
+use Rattle.awk_merging.proofs.OwnVariables.{AreOwn, own_apart, known_other, known_not_own}
+use Rattle.awk_merging.proofs.ProgramSums.{AreApart, AreProper, is_among, apart_sums, proper_sums}
 use Rattle.awk_merging.proofs.RecordsSum.{uncounted, Steady, Passed, passed}
 use Rattle.awk_merging.proofs.RulesSum.{rules_alike}
 use Rattle.awk_merging.proofs.SecondRun.{same_held}
@@ -175,10 +176,17 @@ module _ (items : List Item) (mergeable : IsMergeable items) (named : (x : Sum) 
   xs = sums_of_program items
 
   pub proper : AreProper xs
-  proper = proper_once (sums_in_items items) (proper_items items)
+  proper = proper_sums items
 
   pub distinct : AreApart xs
-  distinct = apart_once (sums_in_items items)
+  distinct = apart_sums items
+
+  -- the variables of the record
+  abbrev pub own_names : Names
+  own_names = own_in items
+
+  abbrev owned : AreOwn own_names xs
+  owned = own_apart items
 
   abbrev pub action : Functions → Run (Unit {0})
   action functions = until_next (try_items functions 0 items)
@@ -238,7 +246,7 @@ module _ (items : List Item) (mergeable : IsMergeable items) (named : (x : Sum) 
       pub holds : HoldsAll (there text pair arrays w k) xs before
       pub sound : (name : List ℕ) → IsSound (before name)
       pub others : (x : List ℕ) → is_array_sum xs x ≡ false → tells_apart x ≡ false → IsNoArray (there text pair arrays w k) x
-      pub steady : Steady xs (opened v) w
+      pub steady : Steady own_names xs (opened v) w
       pub counts : Counts w count
       pub fits : count + length text < 2 ^ 127
 
@@ -266,14 +274,15 @@ module _ (items : List Item) (mergeable : IsMergeable items) (named : (x : Sum) 
       here_well : EndsWell here.result
       here_well = exit_first here.result (ends_first (unless_exit here.result) (outside_calls here.state) (opens ++ here.effects) (λ _. end_items piece.functions (each_of items)) 0 out_ended)
 
-      known_steady : (w : Values) → Steady xs (opened v) w → (x : List ℕ) → knows xs x ≡ true → w x ≡ opened v x
+      known_steady : (w : Values) → Steady own_names xs (opened v) w → (x : List ℕ) → knows own_names xs x ≡ true → w x ≡ opened v x
       known_steady w steady x known =
-          let no_sum = known_no_sum (tells_apart x) (is_derived x) (is_sum xs x) known in
-          let not = known_here (tells_apart x) (is_derived x) (is_sum xs x) known in
-          steady x (no_variable_sum xs x no_sum) (uncounted (codes "NR") x refl not) (uncounted (codes "FNR") x refl not)
+          let other = known_other own_names xs x known in
+          let no_sum = known_no_sum (tells_apart x) (is_derived x) (is_sum xs x) other in
+          let not = known_here (tells_apart x) (is_derived x) (is_sum xs x) other in
+          steady x (no_variable_sum xs x no_sum) (known_not_own own_names xs x known) (uncounted (codes "NR") x refl not) (uncounted (codes "FNR") x refl not)
 
       module _ (before : Tables) (more : List ℕ) (pair : RecordPair) (arrays : List Array) (w : Values) (k count e d : ℕ) (holding : Holding before (piece.text ++ more) pair arrays w k count) (steps : k ≡ piece.steps + d) (joins : Joins piece.text more) where
-        first_ahead : IsAhead xs before (lines piece.base piece.text piece.steps) (there (piece.text ++ more) pair arrays w k)
+        first_ahead : IsAhead own_names xs before (lines piece.base piece.text piece.steps) (there (piece.text ++ more) pair arrays w k)
         first_ahead = record {
           tables = λ name. [];
           here = none_held piece.base piece.ready piece.text piece.steps;
@@ -285,14 +294,14 @@ module _ (items : List Item) (mergeable : IsMergeable items) (named : (x : Sum) 
         }
 
         abbrev Passes : Type 0
-        Passes = Passed xs proper distinct before own whole (action piece.functions) (action functions) (λ o p. rules_alike xs proper distinct before own whole o p piece.functions functions 0 0 items mergeable) more (opened v) w e d here
+        Passes = Passed own_names xs owned proper distinct before own whole (action piece.functions) (action functions) (λ o p. rules_alike own_names xs owned proper distinct before own whole o p piece.functions functions 0 0 items mergeable) more (opened v) w e d here
             (each_record (suc piece.steps + e) (action functions) (there (piece.text ++ more) pair arrays w (piece.steps + d)))
 
         passes : Passes ⊎ Lost (each_record (suc piece.steps + e) (action functions) (there (piece.text ++ more) pair arrays w (piece.steps + d)))
         passes =
             let size = length-append piece.text more in
-            passed xs proper distinct before own whole (action piece.functions) (action functions) (λ o p. rules_alike xs proper distinct before own whole o p piece.functions functions 0 0 items mergeable)
-            (suc piece.steps) e piece.text more c pair piece.base.arrays arrays (opened v) w piece.steps d 0 count (subst (λ (l : ℕ). IsAhead xs before (lines piece.base piece.text piece.steps) (there (piece.text ++ more) pair arrays w l)) steps first_ahead)
+            passed own_names xs owned proper distinct before own whole (action piece.functions) (action functions) (λ o p. rules_alike own_names xs owned proper distinct before own whole o p piece.functions functions 0 0 items mergeable)
+            (suc piece.steps) e piece.text more c pair piece.base.arrays arrays (opened v) w piece.steps d 0 count (subst (λ (l : ℕ). IsAhead own_names xs before (lines piece.base piece.text piece.steps) (there (piece.text ++ more) pair arrays w l)) steps first_ahead)
             counts_none holding.counts joins (let fits = holding.fits in omega (arith, size, fits)) (let fits = holding.fits in omega (arith, size, fits)) here_well
 
         -- what the piece prints
@@ -367,7 +376,7 @@ module _ (items : List Item) (mergeable : IsMergeable items) (named : (x : Sum) 
             holds = holds_as (there more p.pair' p.arrays' p.theirs (p.left + d)) xs (ahead before tables) then_held same_then p.are_ahead.there;
             sound = sound_behind xs before (cells_of held) holding.sound cells_added;
             others = λ x no_sum apart. (p.are_ahead.arrays x no_sum apart).1;
-            steady = λ z no_sum nr fnr. p.keeps' z no_sum nr fnr ∙ holding.steady z no_sum nr fnr;
+            steady = λ z no_sum not nr fnr. p.keeps' z no_sum not nr fnr ∙ holding.steady z no_sum not nr fnr;
             counts = p.counts;
             fits = p.fits;
           }
@@ -399,7 +408,7 @@ module _ (items : List Item) (mergeable : IsMergeable items) (named : (x : Sum) 
       pub effects : List Effect
       pub reads : AreReadings effects
       pub is : out ≡ record { result = Ok tt; state = plain_state (record whole { arrays = arrays }) (over whole.outside) pair values left; effects = effects }
-      pub steady : Steady xs (opened v) values
+      pub steady : Steady own_names xs (opened v) values
       pub cells : Cells
       pub text : states pieces ≡ text_of_cells cells
       pub added : AreAdded xs before cells

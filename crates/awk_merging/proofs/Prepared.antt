@@ -23,7 +23,7 @@ use Rattle.awk_pieces.proofs.RecordsPassed.{EndsWell}
 use Rattle.awk_merging.specs.definitions.Sums.{Sum, Alone, is_taken, print_sums, read_sums, reading_rules}
 use Rattle.awk_merging.specs.definitions.LawOfDerived.{IsOneOf}
 use Rattle.awk_merging.specs.definitions.LawOfAll.{state_begun}
-use Rattle.awk_merging.specs.definitions.Mergeable.{sums_of_program, sums_in_items, is_sum, is_mergeable_item, are_mergeable, IsMergeable}
+use Rattle.awk_merging.specs.definitions.Mergeable.{own_in, sums_of_program, is_sum, is_mergeable_item, are_mergeable, IsMergeable}
 use Rattle.awk_merging.specs.definitions.Derived.{without_ends, begins_of, ends_of, each_of, all_of}
 use Rattle.awk_merging.specs.definitions.LawOfMerging.{all_leave_sums, StartsApart}
 use Rattle.awk_merging.proofs.ArraysNamed.{names_of_items, names_of_each, names_of_all}
@@ -33,7 +33,7 @@ use Rattle.awk_merging.proofs.DerivedParts.{law_of_derived}
 use Rattle.awk_merging.proofs.FirstRun.{has_end}
 use Rattle.awk_merging.proofs.FirstStates.{HasNoFunction, IsPlain, names_same}
 use Rattle.awk_merging.proofs.PiecesGathered.{StartsLines, exit_first}
-use Rattle.awk_merging.proofs.ProgramSums.{AreProper, is_proper, proper_once, proper_items}
+use Rattle.awk_merging.proofs.ProgramSums.{AreProper, is_proper, proper_sums}
 use Rattle.awk_merging.proofs.SecondRun.{has_rules}
 use Rattle.awk_merging.proofs.Sound.{one_named}
 
@@ -44,14 +44,14 @@ well_first (Err h) t effects f well = well
 
 -- no functions
 
-none_in : (xs : List Sum) (items : List Item) → are_mergeable xs items ≡ true → HasNoFunction items
-none_in xs [] is = tt
-none_in xs (Begin block ∷ items) is = none_in xs items (right_true (is_mergeable_item xs (Begin block)) _ is)
-none_in xs (End block ∷ items) is = none_in xs items (right_true (is_mergeable_item xs (End block)) _ is)
-none_in xs (Action block ∷ items) is = none_in xs items (right_true (is_mergeable_item xs (Action block)) _ is)
-none_in xs (PatternAction p block ∷ items) is = none_in xs items (right_true (is_mergeable_item xs (PatternAction p block)) _ is)
-none_in xs (PatternOnly p ∷ items) is = absurd (cc)
-none_in xs (Function f parameters block ∷ items) is = absurd (cc)
+none_in : (mine : List ℕ → Bool) (xs : List Sum) (items : List Item) → are_mergeable mine xs items ≡ true → HasNoFunction items
+none_in mine xs [] is = tt
+none_in mine xs (Begin block ∷ items) is = none_in mine xs items (right_true (is_mergeable_item mine xs (Begin block)) _ is)
+none_in mine xs (End block ∷ items) is = none_in mine xs items (right_true (is_mergeable_item mine xs (End block)) _ is)
+none_in mine xs (Action block ∷ items) is = none_in mine xs items (right_true (is_mergeable_item mine xs (Action block)) _ is)
+none_in mine xs (PatternAction p block ∷ items) is = none_in mine xs items (right_true (is_mergeable_item mine xs (PatternAction p block)) _ is)
+none_in mine xs (PatternOnly p ∷ items) is = absurd (cc)
+none_in mine xs (Function f parameters block ∷ items) is = absurd (cc)
 
 none_joined : (xs ys : List Item) → HasNoFunction xs → HasNoFunction ys → HasNoFunction (xs ++ ys)
 none_joined [] ys a b = b
@@ -125,7 +125,7 @@ module _ (items : List Item) (mergeable : IsMergeable items) (has : has_rule ite
   own = sums_of_program items
 
   pub own_proper : AreProper own
-  own_proper = proper_once (sums_in_items items) (proper_items items)
+  own_proper = proper_sums items
 
   -- one of the three programs
   pub record IsProgram (program : List Item) : Type 0 where
@@ -134,7 +134,7 @@ module _ (items : List Item) (mergeable : IsMergeable items) (has : has_rule ite
     pub rules : has_rule program ≡ true
 
   none : HasNoFunction items
-  none = none_in own items mergeable
+  none = none_in (own_in items) own items mergeable
 
   pub items_program : IsProgram items
   items_program = record { plain = record { names = names_of_items items mergeable; functions = none }; begins = λ f s. refl; rules = has }
@@ -218,7 +218,7 @@ module _ (items : List Item) (mergeable : IsMergeable items) (has : has_rule ite
       ((assign_all_alike (may_begin own) (narrow own) (base program o) (base other p) names start.pre may).covers (unread o) (unread p) first_pair first_values first_values limit d (λ z e. refl)) (well_assigned program o limit well) in
       let mid : State = state_begun (base program o) one.pair one.values one.left in
       let two = settled (may_begin own) (base program o) (base other p) (unread o) (unread p) one.values one.values one.left d _ _ _ _
-      ((begins_alike own (base program o) (base other p) names (functions program limit) (functions other (limit + d)) items mergeable).covers (unread o) (unread p) one.pair one.values one.values one.left d (λ z e. refl))
+      ((begins_alike (own_in items) own (base program o) (base other p) names (functions program limit) (functions other (limit + d)) items mergeable).covers (unread o) (unread p) one.pair one.values one.values one.left d (λ z e. refl))
       (subst (λ (z : Out (Unit {0})). EndsWell z.result) (is.begins (functions program limit) mid) (well_begun program (functions program limit) mid (well_run program o limit mid one.is_here well))) in
       let kept = λ (x : List ℕ) (e : not (may_begin own x) ≡ true). two.keeps x e ∙ one.keeps x e in
       record {

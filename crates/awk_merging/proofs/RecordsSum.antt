@@ -15,7 +15,7 @@ use Rattle.awk_semantics.specs.definitions.State.{RecordOfMain, Effect, Requeste
 use Rattle.awk_semantics.specs.definitions.Primitives.{number_in}
 use Rattle.awk_semantics.specs.definitions.Items.{each_record}
 use Rattle.awk_pieces.specs.definitions.Pieceable.{tells_apart}
-use Rattle.awk_pieces.proofs.Alike.{Outer, Values, state_on as plain_state}
+use Rattle.awk_pieces.proofs.Alike.{Outer, Names, Values, state_on as plain_state}
 use Rattle.awk_pieces.proofs.LinesJoined.{newline, Joins, JoinedCut, joined_cut, no_more}
 use Rattle.awk_pieces.proofs.RecordsFound.{reading, over, Counts, counted, rule_for, record_found, record_starved, record_over, record_broken, record_long}
 use Rattle.awk_pieces.proofs.RecordsPassed.{EndsWell}
@@ -26,6 +26,7 @@ use Rattle.awk_merging.specs.definitions.LawOfRules.{ahead, IsNoArray, IsAhead, 
 use Rattle.awk_merging.proofs.Gathering.{same_key, not_both, apart_turned}
 use Rattle.awk_merging.proofs.Cells.{apart_from_taken}
 use Rattle.awk_merging.proofs.ProgramSums.{AreProper, AreApart}
+use Rattle.awk_merging.proofs.OwnVariables.{AreOwn, not_own, known_other}
 use Rattle.awk_merging.proofs.SecondRun.{same_held}
 use Rattle.awk_merging.proofs.Sound.{no_variable_sum, not_sum}
 use Rattle.awk_merging.proofs.States.{readings_append}
@@ -39,18 +40,18 @@ uncounted name z tells not = elim (cases_Bool (bytes_eq name z)) [
   | inr other ↦ other
 ]
 
--- what is no sum and not counted keeps its value
-abbrev pub Steady : List Sum → Values → Values → Type 0
-Steady xs v w = (z : List ℕ) → is_variable_sum xs z ≡ false → bytes_eq (codes "NR") z ≡ false → bytes_eq (codes "FNR") z ≡ false → w z ≡ v z
+-- what is no sum, no variable of the record and not counted keeps its value
+abbrev pub Steady : Names → List Sum → Values → Values → Type 0
+Steady own xs v w = (z : List ℕ) → is_variable_sum xs z ≡ false → own z ≡ false → bytes_eq (codes "NR") z ≡ false → bytes_eq (codes "FNR") z ≡ false → w z ≡ v z
 
 -- states with the same arrays, and the same variables as far as sums and rules go, are ahead as well
 no_array_as : (s t : State) (x : List ℕ) → s.array_names ≡ t.array_names → s.arrays ≡ t.arrays → IsNoArray s x → IsNoArray t x
 no_array_as s t x names arrays none = (ap (λ (l : List (List ℕ)). has_name l x) (sym names) ∙ none.0, ap₂ (λ (l : List Array) (n : List (List ℕ)). unwrap_or (slice_get l (number_in n x)) []) (sym arrays) (sym names) ∙ none.1)
 
-pub ahead_as : (xs : List Sum) (before : Tables) (s t s' t' : State) → s.array_names ≡ s'.array_names → s.arrays ≡ s'.arrays → t.array_names ≡ t'.array_names → t.arrays ≡ t'.arrays →
+pub ahead_as : (own : Names) (xs : List Sum) (before : Tables) (s t s' t' : State) → s.array_names ≡ s'.array_names → s.arrays ≡ s'.arrays → t.array_names ≡ t'.array_names → t.arrays ≡ t'.arrays →
     ((z : List ℕ) → is_taken z ≡ false → s'.variables z ≡ s.variables z) → ((z : List ℕ) → is_taken z ≡ false → t'.variables z ≡ t.variables z) →
-    ((z : List ℕ) → knows xs z ≡ true → t'.variables z ≡ s'.variables z) → IsAhead xs before s t → IsAhead xs before s' t'
-ahead_as xs before s t s' t' names arrays names' arrays' keeps keeps' agrees are = record {
+    ((z : List ℕ) → knows own xs z ≡ true → t'.variables z ≡ s'.variables z) → IsAhead own xs before s t → IsAhead own xs before s' t'
+ahead_as own xs before s t s' t' names arrays names' arrays' keeps keeps' agrees are = record {
   tables = are.tables;
   here = same_held s s' names arrays keeps xs are.tables are.here;
   there = same_held t t' names' arrays' keeps' xs (ahead before are.tables) are.there;
@@ -66,7 +67,7 @@ behind effects x = record { result = x.result; state = x.state; effects = effect
 behind_lost : (effects : List Effect) (y : Out (Unit {0})) → Lost y → Lost (behind effects y)
 behind_lost effects y lost = lost
 
-module _ (xs : List Sum) (proper : AreProper xs) (distinct : AreApart xs) (before : Tables) (base base' : State) (action action' : Run (Unit {0})) (alike : (o p : Outer) → Alike xs before base base' o p action action') where
+module _ (own : Names) (xs : List Sum) (owned : AreOwn own xs) (proper : AreProper xs) (distinct : AreApart xs) (before : Tables) (base base' : State) (action action' : Run (Unit {0})) (alike : (o p : Outer) → Alike own xs owned before base base' o p (knows own xs) (knows own xs) action action') where
   abbrev at : List ℕ → RecordPair → List Array → Values → ℕ → State
   at = state_reading base
 
@@ -84,9 +85,9 @@ module _ (xs : List Sum) (proper : AreProper xs) (distinct : AreApart xs) (befor
     pub left : ℕ
     pub turns : ℕ
     pub count : ℕ
-    pub are_ahead : IsAhead xs before (plain_state (record base { arrays = arrays }) (over base.outside) pair mine left) (at' more pair' arrays' theirs (left + d))
-    pub keeps : Steady xs v mine
-    pub keeps' : Steady xs w theirs
+    pub are_ahead : IsAhead own xs before (plain_state (record base { arrays = arrays }) (over base.outside) pair mine left) (at' more pair' arrays' theirs (left + d))
+    pub keeps : Steady own xs v mine
+    pub keeps' : Steady own xs w theirs
     pub counts : Counts theirs count
     pub fits : count + length more < 2 ^ 127
     pub ends : here.result ≡ Ok tt
@@ -99,10 +100,10 @@ module _ (xs : List Sum) (proper : AreProper xs) (distinct : AreApart xs) (befor
   abbrev pub Either : (more : List ℕ) (v w : Values) (e d : ℕ) (here there : Out (Unit {0})) → Type 0
   Either more v w e d here there = Passed more v w e d here there ⊎ Lost there
 
-  steady_first : (v w u : Values) (i : ℕ) → w ≡ counted v i → Steady xs w u → Steady xs v u
-  steady_first v w u i is steady z no_sum nr fnr = steady z no_sum nr fnr ∙ (ap (λ (f : Values). f z) is ∙ rw (fnr, nr) refl)
+  steady_first : (v w u : Values) (i : ℕ) → w ≡ counted v i → Steady own xs w u → Steady own xs v u
+  steady_first v w u i is steady z no_sum not nr fnr = steady z no_sum not nr fnr ∙ (ap (λ (f : Values). f z) is ∙ rw (fnr, nr) refl)
 
-  passed_behind : (more : List ℕ) (v w u z : Values) (e d : ℕ) (es fs : List Effect) (here there : Out (Unit {0})) → ((p : Values) → Steady xs u p → Steady xs v p) → ((p : Values) → Steady xs z p → Steady xs w p) → AreReadings es → AreReadings fs →
+  passed_behind : (more : List ℕ) (v w u z : Values) (e d : ℕ) (es fs : List Effect) (here there : Out (Unit {0})) → ((p : Values) → Steady own xs u p → Steady own xs v p) → ((p : Values) → Steady own xs z p → Steady own xs w p) → AreReadings es → AreReadings fs →
       Passed more u z e d here there → Passed more v w e d (behind es here) (behind fs there)
   passed_behind more v w u z e d es fs here there keeps keeps' reads_es reads_fs p = record {
     pair = p.pair;
@@ -129,42 +130,42 @@ module _ (xs : List Sum) (proper : AreProper xs) (distinct : AreApart xs) (befor
         ap (behind fs) p.is_there ∙ ap (λ (l : List Effect). record { result = rest.result; state = rest.state; effects = l }) (sym (append_assoc fs p.effects rest.effects));
   }
 
-  either_behind : (more : List ℕ) (v w u z : Values) (e d : ℕ) (es fs : List Effect) (here there : Out (Unit {0})) → ((p : Values) → Steady xs u p → Steady xs v p) → ((p : Values) → Steady xs z p → Steady xs w p) → AreReadings es → AreReadings fs →
+  either_behind : (more : List ℕ) (v w u z : Values) (e d : ℕ) (es fs : List Effect) (here there : Out (Unit {0})) → ((p : Values) → Steady own xs u p → Steady own xs v p) → ((p : Values) → Steady own xs z p → Steady own xs w p) → AreReadings es → AreReadings fs →
       Either more u z e d here there → Either more v w e d (behind es here) (behind fs there)
   either_behind more v w u z e d es fs here there keeps keeps' reads_es reads_fs (inl p) = inl (passed_behind more v w u z e d es fs here there keeps keeps' reads_es reads_fs p)
   either_behind more v w u z e d es fs here there keeps keeps' reads_es reads_fs (inr lost) = inr lost
 
   -- the rules keep what the records are found and counted by
-  counts_on : (v u : Values) (i : ℕ) → Counts v i → KeepsOthers xs (counted v (suc i)) u → Counts u (suc i)
+  counts_on : (v u : Values) (i : ℕ) → Counts v i → KeepsOthers own xs (counted v (suc i)) u → Counts u (suc i)
   counts_on v u i counts keeps = record {
-    rs = ap str_of (keeps (codes "RS") (no_variable_sum xs (codes "RS") (not_sum xs (codes "RS") proper refl))) ∙ counts.rs;
-    argc = keeps (codes "ARGC") (no_variable_sum xs (codes "ARGC") (not_sum xs (codes "ARGC") proper refl)) ∙ counts.argc;
-    nr = keeps (codes "NR") (no_variable_sum xs (codes "NR") (not_sum xs (codes "NR") proper refl));
-    fnr = keeps (codes "FNR") (no_variable_sum xs (codes "FNR") (not_sum xs (codes "FNR") proper refl));
+    rs = ap str_of (keeps (codes "RS") (no_variable_sum xs (codes "RS") (not_sum xs (codes "RS") proper refl)) (not_own own xs owned (codes "RS") refl)) ∙ counts.rs;
+    argc = keeps (codes "ARGC") (no_variable_sum xs (codes "ARGC") (not_sum xs (codes "ARGC") proper refl)) (not_own own xs owned (codes "ARGC") refl) ∙ counts.argc;
+    nr = keeps (codes "NR") (no_variable_sum xs (codes "NR") (not_sum xs (codes "NR") proper refl)) (not_own own xs owned (codes "NR") refl);
+    fnr = keeps (codes "FNR") (no_variable_sum xs (codes "FNR") (not_sum xs (codes "FNR") proper refl)) (not_own own xs owned (codes "FNR") refl);
   }
 
   -- after so many records
   abbrev PassesFrom : ℕ → Type 0
-  PassesFrom n = (e : ℕ) (bytes more : List ℕ) (c c' : RecordPair) (arrays arrays' : List Array) (v w : Values) (k d i j : ℕ) → IsAhead xs before (at bytes c arrays v k) (at' (bytes ++ more) c' arrays' w (k + d)) → Counts v i → Counts w j → Joins bytes more →
+  PassesFrom n = (e : ℕ) (bytes more : List ℕ) (c c' : RecordPair) (arrays arrays' : List Array) (v w : Values) (k d i j : ℕ) → IsAhead own xs before (at bytes c arrays v k) (at' (bytes ++ more) c' arrays' w (k + d)) → Counts v i → Counts w j → Joins bytes more →
       i + length bytes < 2 ^ 127 → j + (length bytes + length more) < 2 ^ 127 → EndsWell (each_record n action (at bytes c arrays v k)).result →
       Either more v w e d (each_record n action (at bytes c arrays v k)) (each_record (n + e) action' (at' (bytes ++ more) c' arrays' w (k + d)))
 
   -- the record's action, and then the others
   acted_on : (n e : ℕ) (left more : List ℕ) (v w : Values) (k d i j : ℕ) (t : State) (effects : List Effect) (there : Out (Unit {0})) → PassesFrom n → Counts v i → Counts w j → Joins left more →
       suc i + length left < 2 ^ 127 → suc j + (length left + length more) < 2 ^ 127 →
-      Same xs before base base' (reading base.outside left) (reading base'.outside (left ++ more)) (counted v (suc i)) (counted w (suc j)) k d (record { result = Ok (tt {0}); state = t; effects = effects }) there →
+      Same own xs owned before base base' (reading base.outside left) (reading base'.outside (left ++ more)) (knows own xs) (counted v (suc i)) (counted w (suc j)) k d (record { result = Ok (tt {0}); state = t; effects = effects }) there →
       EndsWell (go_on (Ok (tt {0})) t effects (λ _. each_record n action)).result →
       Either more v w e d (go_on (Ok (tt {0})) t effects (λ _. each_record n action)) (go_on there.result there.state there.effects (λ _. each_record (n + e) action'))
   unfolding go_on
   acted_on n e left more v w k d i j t effects there rest counts counts' joins fits fits' c = rw (c.is_here, c.silent, c.is_there) (λ well.
       either_behind more v w c.here c.there e d [] [] (each_record n action (at left c.pair c.arrays c.here c.left)) (each_record (n + e) action' (at' (left ++ more) c.pair c.arrays' c.there (c.left + d)))
-      (λ p steady. steady_first v (counted v (suc i)) p (suc i) refl (λ z no_sum nr fnr. steady z no_sum nr fnr ∙ c.keeps z no_sum))
-      (λ p steady. steady_first w (counted w (suc j)) p (suc j) refl (λ z no_sum nr fnr. steady z no_sum nr fnr ∙ c.keeps' z no_sum)) tt tt
+      (λ p steady. steady_first v (counted v (suc i)) p (suc i) refl (λ z no_sum not nr fnr. steady z no_sum not nr fnr ∙ c.keeps z no_sum not))
+      (λ p steady. steady_first w (counted w (suc j)) p (suc j) refl (λ z no_sum not nr fnr. steady z no_sum not nr fnr ∙ c.keeps' z no_sum not)) tt tt
       (rest e left more c.pair c.pair c.arrays c.arrays' c.here c.there c.left d (suc i) (suc j) c.are_ahead (counts_on v c.here i counts c.keeps) (counts_on w c.there j counts' c.keeps') joins fits fits' well))
 
   acted : (n e : ℕ) (left more : List ℕ) (v w : Values) (k d i j : ℕ) (r : Result (Unit {0}) Halt) (t : State) (effects : List Effect) (there : Out (Unit {0})) → PassesFrom n → Counts v i → Counts w j → Joins left more →
       suc i + length left < 2 ^ 127 → suc j + (length left + length more) < 2 ^ 127 →
-      Told xs before base base' (reading base.outside left) (reading base'.outside (left ++ more)) (counted v (suc i)) (counted w (suc j)) k d r (record { result = r; state = t; effects = effects }) there →
+      Told own xs owned before base base' (reading base.outside left) (reading base'.outside (left ++ more)) (knows own xs) (counted v (suc i)) (counted w (suc j)) k d r (record { result = r; state = t; effects = effects }) there →
       EndsWell (go_on r t effects (λ _. each_record n action)).result →
       Either more v w e d (go_on r t effects (λ _. each_record n action)) (go_on there.result there.state there.effects (λ _. each_record (n + e) action'))
   unfolding go_on
@@ -185,19 +186,19 @@ module _ (xs : List Sum) (proper : AreProper xs) (distinct : AreApart xs) (befor
   counted_sums : (v : Values) (i : ℕ) (z : List ℕ) → is_taken z ≡ false → counted v i z ≡ v z
   counted_sums v i z free = counted_same v i z (apart_turned z (codes "NR") (apart_from_taken z (codes "NR") free refl)) (apart_turned z (codes "FNR") (apart_from_taken z (codes "FNR") free refl))
 
-  counted_known : (v : Values) (i : ℕ) (z : List ℕ) → knows xs z ≡ true → counted v i z ≡ v z
+  counted_known : (v : Values) (i : ℕ) (z : List ℕ) → knows own xs z ≡ true → counted v i z ≡ v z
   counted_known v i z known =
-      let not = known_here (tells_apart z) (is_derived z) (is_sum xs z) known in
+      let not = known_here (tells_apart z) (is_derived z) (is_sum xs z) (known_other own xs z known) in
       counted_same v i z (uncounted (codes "NR") z refl not) (uncounted (codes "FNR") z refl not)
 
-  begun_ahead : (bytes bytes' left left' : List ℕ) (c c' first : RecordPair) (arrays arrays' : List Array) (v w : Values) (k l k' l' i j : ℕ) → IsAhead xs before (at bytes c arrays v k) (at' bytes' c' arrays' w l) →
-      IsAhead xs before (at left first arrays (counted v i) k') (at' left' first arrays' (counted w j) l')
+  begun_ahead : (bytes bytes' left left' : List ℕ) (c c' first : RecordPair) (arrays arrays' : List Array) (v w : Values) (k l k' l' i j : ℕ) → IsAhead own xs before (at bytes c arrays v k) (at' bytes' c' arrays' w l) →
+      IsAhead own xs before (at left first arrays (counted v i) k') (at' left' first arrays' (counted w j) l')
   begun_ahead bytes bytes' left left' c c' first arrays arrays' v w k l k' l' i j are =
-      ahead_as xs before (at bytes c arrays v k) (at' bytes' c' arrays' w l) (at left first arrays (counted v i) k') (at' left' first arrays' (counted w j) l') refl refl refl refl
+      ahead_as own xs before (at bytes c arrays v k) (at' bytes' c' arrays' w l) (at left first arrays (counted v i) k') (at' left' first arrays' (counted w j) l') refl refl refl refl
       (counted_sums v i) (counted_sums w j) (λ z known. counted_known w j z known ∙ are.variables z known ∙ sym (counted_known v i z known)) are
 
   -- a record that is found
-  found_passed : (n e : ℕ) (bytes more first left : List ℕ) (c c' : RecordPair) (arrays arrays' : List Array) (v w : Values) (k d i j : ℕ) → PassesFrom n → IsAhead xs before (at bytes c arrays v (suc k)) (at' (bytes ++ more) c' arrays' w (suc (k + d))) → Counts v i → Counts w j →
+  found_passed : (n e : ℕ) (bytes more first left : List ℕ) (c c' : RecordPair) (arrays arrays' : List Array) (v w : Values) (k d i j : ℕ) → PassesFrom n → IsAhead own xs before (at bytes c arrays v (suc k)) (at' (bytes ++ more) c' arrays' w (suc (k + d))) → Counts v i → Counts w j →
       i + length bytes < 2 ^ 127 → j + (length bytes + length more) < 2 ^ 127 → cut_of newline bytes AtEnd ≡ Found first left → JoinedCut bytes more first left →
       EndsWell (each_record (suc n) action (at bytes c arrays v (suc k))).result →
       Either more v w e d (each_record (suc n) action (at bytes c arrays v (suc k))) (each_record (suc (n + e)) action' (at' (bytes ++ more) c' arrays' w (suc (k + d))))
@@ -208,16 +209,17 @@ module _ (xs : List Sum) (proper : AreProper xs) (distinct : AreApart xs) (befor
       let there : State = record base' { arrays = arrays' } in
       let begun : State = at left (split_by (rule_for v) first) arrays (counted v (suc i)) k in
       let begun' : State = at' (left ++ more) (split_by (rule_for v) first) arrays' (counted w (suc j)) (k + d) in
-      let fs = are.variables (codes "FS") (known_special xs proper distinct (codes "FS") refl refl refl) in
+      let begun_are = begun_ahead bytes (bytes ++ more) left (left ++ more) c c' (split_by (rule_for v) first) arrays arrays' v w (suc k) (suc (k + d)) k (k + d) (suc i) (suc j) are in
+      let fs = are.variables (codes "FS") (known_special own xs owned proper distinct (codes "FS") refl refl refl refl) in
       let found = record_found there base'.outside (bytes ++ more) c' w j counts' (n + e) action' (k + d) first (left ++ more) (omega arith) joined.found
       ∙ ap (λ (rule : Rule). behind (Requested (RecordOfMain newline (bytes ++ more)) ∷ []) ((action' >>= λ _. each_record (n + e) action') (at' (left ++ more) (split_by rule first) arrays' (counted w (suc j)) (k + d)))) (rule_same v w fs counts.rs counts'.rs) in
       rw (record_found here base.outside bytes c v i counts n action k first left (omega arith) cut, found) (λ well.
       either_behind more v w v w e d (Requested (RecordOfMain newline bytes) ∷ []) (Requested (RecordOfMain newline (bytes ++ more)) ∷ []) _ _ (λ p steady. steady) (λ p steady. steady) tt tt
       (acted n e left more v w k d i j (action begun).result (action begun).state (action begun).effects (action' begun') rest counts counts' joined.joins (omega arith) (omega arith)
       ((alike (reading base.outside left) (reading base'.outside (left ++ more))).told (split_by (rule_for v) first) arrays arrays' (counted v (suc i)) (counted w (suc j)) k d
-      (begun_ahead bytes (bytes ++ more) left (left ++ more) c c' (split_by (rule_for v) first) arrays arrays' v w (suc k) (suc (k + d)) k (k + d) (suc i) (suc j) are)) well))
+      begun_are begun_are.variables) well))
 
-  none_passed : (n e : ℕ) (bytes more : List ℕ) (c c' : RecordPair) (arrays arrays' : List Array) (v w : Values) (k d i j : ℕ) → IsAhead xs before (at bytes c arrays v k) (at' (bytes ++ more) c' arrays' w (k + d)) → Counts v i → Counts w j →
+  none_passed : (n e : ℕ) (bytes more : List ℕ) (c c' : RecordPair) (arrays arrays' : List Array) (v w : Values) (k d i j : ℕ) → IsAhead own xs before (at bytes c arrays v k) (at' (bytes ++ more) c' arrays' w (k + d)) → Counts v i → Counts w j →
       j + (length bytes + length more) < 2 ^ 127 → cut_of newline bytes AtEnd ≡ NoMore → bytes ≡ [] →
       Passed more v w e d (each_record (suc n) action (at bytes c arrays v k)) (each_record (suc n + e) action' (at' (bytes ++ more) c' arrays' w (k + d)))
   none_passed n e bytes more c c' arrays arrays' v w k d i j are counts counts' fits cut none =
@@ -232,10 +234,10 @@ module _ (xs : List Sum) (proper : AreProper xs) (distinct : AreApart xs) (befor
         left = k;
         turns = n;
         count = j;
-        are_ahead = ahead_as xs before (at bytes c arrays v k) (at' (bytes ++ more) c' arrays' w (k + d)) (plain_state (record base { arrays = arrays }) (over base.outside) c v k) (at' more c' arrays' w (k + d)) refl refl refl refl
+        are_ahead = ahead_as own xs before (at bytes c arrays v k) (at' (bytes ++ more) c' arrays' w (k + d)) (plain_state (record base { arrays = arrays }) (over base.outside) c v k) (at' more c' arrays' w (k + d)) refl refl refl refl
             (λ z free. refl) (λ z free. refl) are.variables are;
-        keeps = λ z no_sum nr fnr. refl;
-        keeps' = λ z no_sum nr fnr. refl;
+        keeps = λ z no_sum not nr fnr. refl;
+        keeps' = λ z no_sum not nr fnr. refl;
         counts = counts';
         fits = omega arith;
         ends = refl;
@@ -246,7 +248,7 @@ module _ (xs : List Sum) (proper : AreProper xs) (distinct : AreApart xs) (befor
         is_there = ap (λ (l : List ℕ). each_record (suc n + e) action' (at' (l ++ more) c' arrays' w (k + d))) none;
       })
 
-  by_steps : (n e : ℕ) (bytes more first left : List ℕ) (c c' : RecordPair) (arrays arrays' : List Array) (v w : Values) (k d i j : ℕ) → PassesFrom n → IsAhead xs before (at bytes c arrays v k) (at' (bytes ++ more) c' arrays' w (k + d)) → Counts v i → Counts w j →
+  by_steps : (n e : ℕ) (bytes more first left : List ℕ) (c c' : RecordPair) (arrays arrays' : List Array) (v w : Values) (k d i j : ℕ) → PassesFrom n → IsAhead own xs before (at bytes c arrays v k) (at' (bytes ++ more) c' arrays' w (k + d)) → Counts v i → Counts w j →
       i + length bytes < 2 ^ 127 → j + (length bytes + length more) < 2 ^ 127 → cut_of newline bytes AtEnd ≡ Found first left → JoinedCut bytes more first left →
       EndsWell (each_record (suc n) action (at bytes c arrays v k)).result →
       Either more v w e d (each_record (suc n) action (at bytes c arrays v k)) (each_record (suc n + e) action' (at' (bytes ++ more) c' arrays' w (k + d)))
@@ -255,10 +257,10 @@ module _ (xs : List Sum) (proper : AreProper xs) (distinct : AreApart xs) (befor
   by_steps n e bytes more first left c c' arrays arrays' v w (suc k) d i j rest are counts counts' fits fits' cut joined well =
       let turns : suc n + e ≡ suc (n + e) = omega arith in
       let steps : suc k + d ≡ suc (k + d) = omega arith in
-      let are_then = subst (λ (l : ℕ). IsAhead xs before (at bytes c arrays v (suc k)) (at' (bytes ++ more) c' arrays' w l)) steps are in
+      let are_then = subst (λ (l : ℕ). IsAhead own xs before (at bytes c arrays v (suc k)) (at' (bytes ++ more) c' arrays' w l)) steps are in
       rw (turns, steps) (found_passed n e bytes more first left c c' arrays arrays' v w k d i j rest are_then counts counts' fits fits' cut joined well)
 
-  by_cut : (cut : Cut) (n e : ℕ) (bytes more : List ℕ) (c c' : RecordPair) (arrays arrays' : List Array) (v w : Values) (k d i j : ℕ) → PassesFrom n → IsAhead xs before (at bytes c arrays v k) (at' (bytes ++ more) c' arrays' w (k + d)) → Counts v i → Counts w j → Joins bytes more →
+  by_cut : (cut : Cut) (n e : ℕ) (bytes more : List ℕ) (c c' : RecordPair) (arrays arrays' : List Array) (v w : Values) (k d i j : ℕ) → PassesFrom n → IsAhead own xs before (at bytes c arrays v k) (at' (bytes ++ more) c' arrays' w (k + d)) → Counts v i → Counts w j → Joins bytes more →
       i + length bytes < 2 ^ 127 → j + (length bytes + length more) < 2 ^ 127 → cut_of newline bytes AtEnd ≡ cut →
       EndsWell (each_record (suc n) action (at bytes c arrays v k)).result →
       Either more v w e d (each_record (suc n) action (at bytes c arrays v k)) (each_record (suc n + e) action' (at' (bytes ++ more) c' arrays' w (k + d)))

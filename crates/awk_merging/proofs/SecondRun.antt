@@ -1,5 +1,5 @@
 -- What the second of the derived programs does on the text of cells.
-use Rattle.std.proofs.Common.{◌≡◌, ℕ, suc, ◌+◌, ◌*◌, ◌<◌, true, false, List, [], ◌∷◌, ◌++◌, length, None, Ok, refl, sym, ap, ap₂, ◌∙◌, subst, codes, bytes_eq, append-nil, arith}
+use Rattle.std.proofs.Common.{◌≡◌, inl, inr, ℕ, suc, ◌+◌, ◌*◌, ◌<◌, true, false, List, [], ◌∷◌, ◌++◌, length, None, Ok, refl, sym, ap, ap₂, ◌∙◌, subst, codes, bytes_eq, append-nil, arith}
 use Rattle.std.specs.Prelude.{slice_get, unwrap_or}
 use Rattle.awk_value.specs.Arrays.{Array}
 use Rattle.awk_record.specs.Record.{RecordPair}
@@ -18,6 +18,7 @@ use Rattle.awk_merging.specs.definitions.Sums.{Sum, ByKey, Alone, reading_rules,
 use Rattle.awk_merging.specs.definitions.LawOfStates.{Cells, text_of_cells, Tables, behind_cells, HoldsAll, AreAdded, state_reading, ReadsOn, turns_of, steps_of}
 use Rattle.awk_merging.specs.definitions.Mergeable.{sums_of_program}
 use Rattle.awk_merging.specs.definitions.Derived.{begins_of, ends_of, all_of}
+use Rattle.awk_merging.specs.definitions.LawOfDerived.{IsOneOf}
 use Rattle.awk_merging.specs.definitions.LawOfAll.{state_begun, WillRead, EndsWith, LawOfAll}
 use Rattle.awk_merging.proofs.Cells.{apart_from_taken}
 use Rattle.awk_merging.proofs.Gathering.{apart_turned}
@@ -53,18 +54,21 @@ has_rules (PatternOnly p ∷ xs) ys has = has_rules xs ys has
 has_rules (Function f parameters b ∷ xs) ys has = has_rules xs ys has
 
 -- what is held stays, where the arrays and the variables of sums do
-pub same_held : (s t : State) → s.array_names ≡ t.array_names → s.arrays ≡ t.arrays → ((z : List ℕ) → is_taken z ≡ false → t.variables z ≡ s.variables z) → (xs : List Sum) (tables : Tables) → HoldsAll s xs tables → HoldsAll t xs tables
-same_held s t names arrays values [] tables holds = tt
-same_held s t names arrays values (ByKey a ∷ xs) tables holds = (
+pub kept_held : (s t : State) → s.array_names ≡ t.array_names → s.arrays ≡ t.arrays → (xs : List Sum) (tables : Tables) → ((z : List ℕ) → is_taken z ≡ false → IsOneOf (Alone z) xs → t.variables z ≡ s.variables z) → HoldsAll s xs tables → HoldsAll t xs tables
+kept_held s t names arrays [] tables values holds = tt
+kept_held s t names arrays (ByKey a ∷ xs) tables values holds = (
   holds.0,
   (
     ap (λ (l : List (List ℕ)). has_name l a) (sym names) ∙ holds.1.0,
     subst (λ (l : List (List ℕ)). number_in l a < length t.arrays) names (subst (λ (l : List Array). number_in s.array_names a < length l) arrays holds.1.1),
     ap₂ (λ (l : List Array) (n : List (List ℕ)). unwrap_or (slice_get l (number_in n a)) []) (sym arrays) (sym names) ∙ holds.1.2,
   ),
-  same_held s t names arrays values xs tables holds.2,
+  kept_held s t names arrays xs tables (λ z free is. values z free (inr is)) holds.2,
 )
-same_held s t names arrays values (Alone x ∷ xs) tables holds = (holds.0, (holds.1.0, values x holds.0 ∙ holds.1.1, holds.1.2), same_held s t names arrays values xs tables holds.2)
+kept_held s t names arrays (Alone x ∷ xs) tables values holds = (holds.0, (holds.1.0, values x holds.0 (inl refl) ∙ holds.1.1, holds.1.2), kept_held s t names arrays xs tables (λ z free is. values z free (inr is)) holds.2)
+
+pub same_held : (s t : State) → s.array_names ≡ t.array_names → s.arrays ≡ t.arrays → ((z : List ℕ) → is_taken z ≡ false → t.variables z ≡ s.variables z) → (xs : List Sum) (tables : Tables) → HoldsAll s xs tables → HoldsAll t xs tables
+same_held s t names arrays values xs tables holds = kept_held s t names arrays xs tables (λ z free is. values z free) holds
 
 module _ (functions : Functions) (items : List Item) (base : State) (c : RecordPair) (v : Values) (cells : Cells) (tables : Tables) (left : ℕ) (will : WillRead base v cells)
     (holds : HoldsAll (state_begun base c v left) (sums_of_program items) tables) (added : AreAdded (sums_of_program items) tables cells) where

@@ -1,13 +1,15 @@
 -- Two runs that show alike: on states in which all is the same that END may read.
-use Rattle.std.proofs.Common.{◌≡◌, inl, inr, ℕ, suc, zero, ◌+◌, ◌<◌, Bool, true, false, List, [], ◌++◌, length, Result, Ok, Err, refl, sym, ap, ◌∙◌, subst, arith, codes, bytes_eq, slice_get, slice_set}
+use Rattle.std.proofs.Common.{◌≡◌, inl, inr, ℕ, suc, zero, ◌+◌, ◌<◌, Bool, true, false, ◌&&◌, List, [], ◌++◌, length, Some, Result, Ok, Err, refl, sym, ap, ◌∙◌, subst, arith, codes, bytes_eq, slice_get, slice_set}
 use Rattle.std.specs.Prelude.{unwrap_or}
-use Rattle.std.proofs.lemmas.Bool.{cases_Bool}
+use Rattle.std.proofs.lemmas.Bool.{cases_Bool, or_cases}
 use Rattle.std.proofs.lemmas.List.{length-set, get_or-set_same, get_or-set_other}
 use Rattle.std.proofs.lemmas.Option.{unwrap_or-slice_get}
 use Rattle.awk_value.specs.declared.value.Value.{Value}
+use Rattle.awk_value.specs.declared.value.Value.TheVariants as value
 use Rattle.awk_value.specs.Arrays.{Array}
 use Rattle.awk_value.specs.Values.{truth_of}
 use Rattle.awk_kinds.specs.Names.{has_name}
+use Rattle.awk_kinds.specs.Variables.{with_value}
 use Rattle.awk_lex.specs.declared.token.Operator.TheVariants as o
 use Rattle.awk_grammar.specs.declared.tree.BinaryOperator.{BinaryOperator}
 use Rattle.awk_grammar.specs.declared.tree.BinaryOperator.TheVariants.{Concatenate, Infix}
@@ -16,19 +18,22 @@ use Rattle.awk_semantics.specs.declared.halt.Halt.{Halt}
 use Rattle.awk_semantics.specs.declared.halt.Halt.TheVariants as halt
 use Rattle.awk_semantics.specs.definitions.State.{Effect, State, Out, Run, go_on, ◌>>=◌, lift, ret}
 use Rattle.awk_semantics.specs.definitions.Operators.{truth_value, applied}
-use Rattle.awk_semantics.specs.definitions.Primitives.{spend, spend_of, number_in, array_in}
+use Rattle.awk_semantics.specs.declared.flow.Flow.{Flow}
+use Rattle.awk_semantics.specs.definitions.Primitives.{spend, spend_of, number_in, array_in, put, put_outside}
 use Rattle.awk_semantics.specs.definitions.Semantics.{right_operand, tested, choose, combined}
+use Rattle.awk_pieces.specs.definitions.Pieceable.{also}
+use Rattle.awk_pieces.proofs.Alike.{Names, Values}
+use Rattle.awk_pieces.proofs.PlacesAlike.{within_also, set_agrees}
+use Rattle.awk_pieces.proofs.ReadsAlike.{left_true, right_true}
 use Rattle.awk_pieces.proofs.ValuesAndFaults.{IsValueOrFault, applied_faults}
 use Rattle.awk_merging.specs.definitions.Sums.{Sum, ByKey, is_taken}
-use Rattle.awk_merging.specs.definitions.Mergeable.{is_array_sum, is_shown}
+use Rattle.awk_merging.specs.definitions.Mergeable.{is_array_sum, is_shown, shows}
 use Rattle.awk_merging.specs.definitions.LawOfEnd.{ShowAlike}
 use Rattle.awk_merging.proofs.Gathering.{same_key}
 use Rattle.awk_merging.proofs.Cells.{apart_from_taken}
+use Rattle.awk_merging.proofs.OwnVariables.{AreOwn, not_own}
 use Rattle.awk_merging.proofs.ProgramSums.{AreProper, is_proper}
 use Rattle.awk_merging.proofs.Sound.{one_array, other_number}
-
-abbrev pub Values : Type 0
-Values = List ℕ → Value
 
 -- a sum's name may be shown
 pub proper_shown : (x : List ℕ) → is_taken x ≡ false → is_shown x ≡ true
@@ -47,7 +52,34 @@ proper_shown x proper = rw (
 abbrev pub Any : {A : Type 0} → A → Type 0
 Any a = Unit {0}
 
-module _ (xs : List Sum) (proper : AreProper xs) (base base' : State) where
+-- what END may read: what may be shown, and the variables by which a line is printed and keys are joined
+pub record Shows (shown : Names) : Type 0 where
+  pub within : (x : List ℕ) → shown x ≡ true → is_shown x ≡ true
+  pub subsep : shown (codes "SUBSEP") ≡ true
+  pub ofs : shown (codes "OFS") ≡ true
+  pub ors : shown (codes "ORS") ≡ true
+
+pub shows_first : (own : Names) (xs : List Sum) → AreOwn own xs → Shows (shows own)
+shows_first own xs owned = record {
+  within = λ x e. left_true (is_shown x) _ e;
+  subsep = rw (not_own own xs owned (codes "SUBSEP") refl) refl;
+  ofs = rw (not_own own xs owned (codes "OFS") refl) refl;
+  ors = rw (not_own own xs owned (codes "ORS") refl) refl;
+}
+
+-- and what a loop over keys sets
+pub shows_also : (own shown : Names) (x : List ℕ) → is_taken x ≡ false → Shows shown → Shows (also own (Some x) shown)
+shows_also own shown x free may = record {
+  within = λ z e. elim (or_cases (own x && bytes_eq x z) (shown z) e) [
+    | inl here ↦ subst (λ (y : List ℕ). is_shown y ≡ true) (same_key x z (right_true (own x) _ here)) (proper_shown x free)
+    | inr there ↦ may.within z there
+  ];
+  subsep = within_also own shown (Some x) (codes "SUBSEP") may.subsep;
+  ofs = within_also own shown (Some x) (codes "OFS") may.ofs;
+  ors = within_also own shown (Some x) (codes "ORS") may.ors;
+}
+
+module _ (shown : Names) (xs : List Sum) (proper : AreProper xs) (base base' : State) where
   -- outside of calls
   abbrev pub at : List Array → Values → ℕ → State
   at arrays v k = record base { arrays = arrays; variables = v; frames = []; steps = k }
@@ -62,7 +94,7 @@ module _ (xs : List Sum) (proper : AreProper xs) (base base' : State) where
     pub here : Values
     pub there : Values
     pub left : ℕ
-    pub alike : ShowAlike xs (at arrays here left) (at' arrays' there (left + d))
+    pub alike : ShowAlike shown xs (at arrays here left) (at' arrays' there (left + d))
     pub is_here : x.state ≡ at arrays here left
     pub is_there : y ≡ record { result = x.result; state = at' arrays' there (left + d); effects = x.effects }
 
@@ -75,7 +107,7 @@ module _ (xs : List Sum) (proper : AreProper xs) (base base' : State) where
   Covers P d (Err halt.Exit) x y = ⊥
 
   pub record Alike {A : Type 0} (P : A → Type 0) (m n : Run A) : Type 0 where
-    pub covers : (arrays arrays' : List Array) (v w : Values) (k d : ℕ) → ShowAlike xs (at arrays v k) (at' arrays' w (k + d)) → Covers P d (m (at arrays v k)).result (m (at arrays v k)) (n (at' arrays' w (k + d)))
+    pub covers : (arrays arrays' : List Array) (v w : Values) (k d : ℕ) → ShowAlike shown xs (at arrays v k) (at' arrays' w (k + d)) → Covers P d (m (at arrays v k)).result (m (at arrays v k)) (n (at' arrays' w (k + d)))
 
   abbrev behind : {A : Type 0} → List Effect → Out A → Out A
   behind effects x = record { result = x.result; state = x.state; effects = effects ++ x.effects }
@@ -112,7 +144,7 @@ module _ (xs : List Sum) (proper : AreProper xs) (base base' : State) where
   then_alike f g x h = then_with f g x (λ a _. h a)
 
   -- what leaves the states as they are
-  pub unmoved : {A : Type 0} (P : A → Type 0) (arrays arrays' : List Array) (v w : Values) (k d : ℕ) (effects : List Effect) (r : Result A Halt) → IsValueOrFault r → ((a : A) → r ≡ Ok a → P a) → ShowAlike xs (at arrays v k) (at' arrays' w (k + d)) →
+  pub unmoved : {A : Type 0} (P : A → Type 0) (arrays arrays' : List Array) (v w : Values) (k d : ℕ) (effects : List Effect) (r : Result A Halt) → IsValueOrFault r → ((a : A) → r ≡ Ok a → P a) → ShowAlike shown xs (at arrays v k) (at' arrays' w (k + d)) →
       Covers P d r (record { result = r; state = at arrays v k; effects = effects }) (record { result = r; state = at' arrays' w (k + d); effects = effects })
   unmoved P arrays arrays' v w k d effects (Ok a) is holds alike = (record { arrays = arrays; arrays' = arrays'; here = v; there = w; left = k; alike = alike; is_here = refl; is_there = refl }, holds a refl)
   unmoved P arrays arrays' v w k d effects (Err (halt.Fault f)) is holds alike = (refl, refl)
@@ -131,14 +163,14 @@ module _ (xs : List Sum) (proper : AreProper xs) (base base' : State) where
   pub ret_alike : {A : Type 0} (a : A) → Alike Any (ret a) (ret a)
   ret_alike a = ret_with a tt
 
-  fewer : (arrays arrays' : List Array) (v w : Values) (k l k' l' : ℕ) → ShowAlike xs (at arrays v k) (at' arrays' w l) → ShowAlike xs (at arrays v k') (at' arrays' w l')
+  fewer : (arrays arrays' : List Array) (v w : Values) (k l k' l' : ℕ) → ShowAlike shown xs (at arrays v k) (at' arrays' w l) → ShowAlike shown xs (at arrays v k') (at' arrays' w l')
   fewer arrays arrays' v w k l k' l' alike = record {
     variables = alike.variables;
     arrays = λ x e. record { named = (alike.arrays x e).named; elements = (alike.arrays x e).elements };
     summed = alike.summed;
   }
 
-  spend_covers : (arrays arrays' : List Array) (v w : Values) (k d : ℕ) → ShowAlike xs (at arrays v k) (at' arrays' w (k + d)) → Covers Any d (spend_of k (at arrays v k)).result (spend_of k (at arrays v k)) (spend_of (k + d) (at' arrays' w (k + d)))
+  spend_covers : (arrays arrays' : List Array) (v w : Values) (k d : ℕ) → ShowAlike shown xs (at arrays v k) (at' arrays' w (k + d)) → Covers Any d (spend_of k (at arrays v k)).result (spend_of k (at arrays v k)) (spend_of (k + d) (at' arrays' w (k + d)))
   spend_covers arrays arrays' v w zero d alike = tt
   spend_covers arrays arrays' v w (suc k) d alike =
       let e : suc k + d ≡ suc (k + d) = omega arith in
@@ -219,7 +251,7 @@ module _ (xs : List Sum) (proper : AreProper xs) (base base' : State) where
         ∙ get_or-set_other arrays (number_in names a) (number_in names x) new [] (other_number names a x has apart)
         ∙ sym (unwrap_or-slice_get arrays (number_in names x) [])
 
-    module _ (arrays arrays' : List Array) (v w : Values) (k l : ℕ) (new : Array) (alike : ShowAlike xs (at arrays v k) (at' arrays' w l)) where
+    module _ (arrays arrays' : List Array) (v w : Values) (k l : ℕ) (new : Array) (alike : ShowAlike shown xs (at arrays v k) (at' arrays' w l)) where
       same_elements : (x : List ℕ) → is_shown x ≡ true → array_in (at' (slice_set arrays' number' new) w l) (number_in base'.array_names x) ≡ array_in (at (slice_set arrays number new) v k) (number_in base.array_names x)
       same_elements x shown =
           let held = alike.summed a is in
@@ -229,10 +261,54 @@ module _ (xs : List Sum) (proper : AreProper xs) (base base' : State) where
             | inr apart ↦ set_elsewhere base'.array_names arrays' new x held.1.0 apart ∙ (alike.arrays x shown).elements ∙ sym (set_elsewhere base.array_names arrays new x held.0.0 apart)
           ]
 
-      pub set_alike : ShowAlike xs (at (slice_set arrays number new) v k) (at' (slice_set arrays' number' new) w l)
+      pub set_alike : ShowAlike shown xs (at (slice_set arrays number new) v k) (at' (slice_set arrays' number' new) w l)
       set_alike = record {
         variables = alike.variables;
         arrays = λ x e. record { named = (alike.arrays x e).named; elements = same_elements x e };
         summed = λ b e. let held = alike.summed b e in
             ((held.0.0, omega (arith, held.0.1, length-set arrays number new)), (held.1.0, omega (arith, held.1.1, length-set arrays' number' new)));
       }
+
+-- a name gets a key, and may be read in what follows
+module _ (own shown : Names) (x : List ℕ) (xs : List Sum) (proper : AreProper xs) (base base' : State) where
+  abbrev more : Names
+  more = also own (Some x) shown
+
+  covers_fewer : {A : Type 0} (d : ℕ) (r : Result A Halt) (y z : Out A) → Covers more xs proper base base' Any d r y z → Covers shown xs proper base base' Any d r y z
+  covers_fewer d (Ok a) y z c = (
+    record {
+      arrays = c.0.arrays;
+      arrays' = c.0.arrays';
+      here = c.0.here;
+      there = c.0.there;
+      left = c.0.left;
+      alike = record {
+        variables = λ w e. c.0.alike.variables w (within_also own shown (Some x) w e);
+        arrays = λ w e. record { named = (c.0.alike.arrays w e).named; elements = (c.0.alike.arrays w e).elements };
+        summed = c.0.alike.summed;
+      };
+      is_here = c.0.is_here;
+      is_there = c.0.is_there;
+    },
+    tt,
+  )
+  covers_fewer d (Err (halt.Fault f)) y z c = c
+  covers_fewer d (Err halt.OutOfSteps) y z c = tt
+  covers_fewer d (Err halt.Next) y z c = absurd c
+  covers_fewer d (Err halt.Exit) y z c = absurd c
+
+  pub named_then : (key : List ℕ) {m n : Run Flow} → is_taken x ≡ false → Alike more xs proper base base' Any m n → Alike shown xs proper base base' Any (put x (value.Text key) >>= λ _. m) (put x (value.Text key) >>= λ _. n)
+  unfolding put put_outside ◌>>=◌ go_on
+  named_then key {m = m} {n = n} free h = record {
+    covers = λ arrays arrays' v w k d alike.
+        let here : Values = with_value v x (value.Text key) in
+        let there : Values = with_value w x (value.Text key) in
+        rw (apart_from_taken x (codes "NF") free refl, apart_from_taken x (codes "FS") free refl) (
+        covers_fewer d (m (at more xs proper base base' arrays here k)).result (m (at more xs proper base base' arrays here k)) (n (at' more xs proper base base' arrays' there (k + d)))
+        (h.covers arrays arrays' here there k d (record {
+          variables = set_agrees own shown x (value.Text key) v w alike.variables;
+          arrays = λ z e. record { named = (alike.arrays z e).named; elements = (alike.arrays z e).elements };
+          summed = alike.summed;
+        }))
+        );
+  }

@@ -3,3 +3,4 @@ pub mod Kept
 pub mod Lines
 pub mod SumsOf
 pub mod WithSums
+pub mod Others

@@ -1,23 +1,21 @@
 // What END of a program with these sums may do: it prints what it reads of them, to standard output.
 
-ghost use Rattle.std.specs.Prelude.{◌≡◌, ◌||◌, not};
+ghost use Rattle.std.specs.Prelude.{◌≡◌, ◌||◌, not, true, Ok, IfOk, OnOk};
+ghost use Rattle.awk_grammar.specs.Tree.{ForIn};
 ghost use Rattle.awk_grammar.specs.View as g;
 ghost use Rattle.awk_merging.specs.definitions.Sums.{is_taken};
-ghost use Rattle.awk_merging.specs.definitions.Mergeable.{is_sum, is_shown, is_of_values, is_standard, reads_sums, all_read_sums, are_printed, is_printed, is_simple_print, only_prints, all_only_print};
+ghost use Rattle.awk_merging.specs.definitions.Mergeable.{is_sum, is_of_values, is_standard, reads_sums, all_read_sums, are_printed, is_printed, is_simple_print, only_prints, all_only_print};
+ghost use Rattle.awk_pieces.specs.support.Known.{own_of, set_of};
+ghost use Rattle.awk_merging.specs.support.Others.{shown_in};
 ghost use Rattle.awk_merging.specs.support.SumsOf.{sums_of};
 
-use crate::record_rules::is_derived;
+use crate::others::{Others, is_shown};
 use crate::sums::{Sum, is_array_sum, is_sum, is_taken};
 use awk_grammar::tree::{Expr, Output, PrintList, SimpleStatement, Statement};
 use awk_lex::token::BuiltIn;
-use awk_pieces::tells_apart;
-
-/// Whether END may read the variable: it is a sum, or is set by BEGIN alone.
-fn is_shown(name: &[u8]) -> bool
-    ensures { result ≡ is_shown name.now }
-{
-    !(tells_apart(name) || is_derived(name) || name == b"NF".as_slice())
-}
+use awk_pieces::Known;
+use awk_value::Bytes;
+use std::alloc::AllocError;
 
 /// Whether the built-in function does no more than make a value of its arguments.
 fn is_of_values(function: BuiltIn, arguments: &[Expr]) -> bool
@@ -36,26 +34,27 @@ fn is_of_values(function: BuiltIn, arguments: &[Expr]) -> bool
 }
 
 #[cycle(expressions)]
-fn reads_sums(sums: &[Sum], e: &Expr) -> bool
-    ensures { result ≡ reads_sums (sums_of sums.now) (g.expr_of e.now) }
+fn reads_sums(others: &Others, e: &Expr) -> bool
+    ensures { result ≡ reads_sums (sums_of others.now.sums.now) (shown_in others.now.known.now) (g.expr_of e.now) }
 {
     match e {
         Expr::Number(_) | Expr::String(_) => true,
-        Expr::Name(name) => is_shown(name.as_slice()),
-        Expr::Group(e) | Expr::Unary(_, e) => reads_sums(sums, e),
-        Expr::Binary(_, a, b) => reads_sums(sums, a) && reads_sums(sums, b),
+        Expr::Name(name) => is_shown(others.known, name.as_slice()),
+        Expr::Group(e) | Expr::Unary(_, e) => reads_sums(others, e),
+        Expr::Binary(_, a, b) => reads_sums(others, a) && reads_sums(others, b),
         Expr::Conditional(c, a, b) => {
-            reads_sums(sums, c) && reads_sums(sums, a) && reads_sums(sums, b)
+            reads_sums(others, c) && reads_sums(others, a) && reads_sums(others, b)
         }
         Expr::Element(array, subscripts) => {
-            is_array_sum(sums, array.as_slice()) && all_read_sums(sums, subscripts)
+            is_array_sum(others.sums, array.as_slice()) && all_read_sums(others, subscripts)
         }
         Expr::ListMembership(list, array) => {
-            is_array_sum(sums, array.as_slice()) && all_read_sums(sums, list)
+            is_array_sum(others.sums, array.as_slice()) && all_read_sums(others, list)
         }
-        Expr::Membership(e, array) => is_array_sum(sums, array.as_slice()) && reads_sums(sums, e),
+        Expr::Membership(e, array) => is_array_sum(others.sums, array.as_slice())
+            && reads_sums(others, e),
         Expr::BuiltIn(function, arguments) => {
-            is_of_values(*function, arguments) && all_read_sums(sums, arguments)
+            is_of_values(*function, arguments) && all_read_sums(others, arguments)
         }
         Expr::Ere(_)
         | Expr::Field(_)
@@ -70,11 +69,11 @@ fn reads_sums(sums: &[Sum], e: &Expr) -> bool
 }
 
 #[cycle(expressions)]
-fn all_read_sums(sums: &[Sum], list: &[Expr]) -> bool
-    ensures { result ≡ all_read_sums (sums_of sums.now) (g.exprs_of list.now) }
+fn all_read_sums(others: &Others, list: &[Expr]) -> bool
+    ensures { result ≡ all_read_sums (sums_of others.now.sums.now) (shown_in others.now.known.now) (g.exprs_of list.now) }
 {
     for e in list {
-        if !reads_sums(sums, e) {
+        if !reads_sums(others, e) {
             return false;
         }
     }
@@ -82,17 +81,17 @@ fn all_read_sums(sums: &[Sum], list: &[Expr]) -> bool
 }
 
 /// Whether there is a list, and it reads no more than sums: without one the record would be printed.
-fn are_printed(sums: &[Sum], list: &[Expr]) -> bool
-    ensures { result ≡ are_printed (sums_of sums.now) (g.exprs_of list.now) }
+fn are_printed(others: &Others, list: &[Expr]) -> bool
+    ensures { result ≡ are_printed (sums_of others.now.sums.now) (shown_in others.now.known.now) (g.exprs_of list.now) }
 {
-    !list.is_empty() && all_read_sums(sums, list)
+    !list.is_empty() && all_read_sums(others, list)
 }
 
-fn is_printed(sums: &[Sum], list: &PrintList) -> bool
-    ensures { result ≡ is_printed (sums_of sums.now) (g.print_list_of list.now) }
+fn is_printed(others: &Others, list: &PrintList) -> bool
+    ensures { result ≡ is_printed (sums_of others.now.sums.now) (shown_in others.now.known.now) (g.print_list_of list.now) }
 {
     match list {
-        PrintList::Bare(list) | PrintList::Parenthesized(list) => are_printed(sums, list),
+        PrintList::Bare(list) | PrintList::Parenthesized(list) => are_printed(others, list),
     }
 }
 
@@ -102,11 +101,11 @@ fn is_standard(output: &Output) -> bool
     matches!(output, Output::Standard)
 }
 
-fn is_simple_print(sums: &[Sum], simple: &SimpleStatement) -> bool
-    ensures { result ≡ is_simple_print (sums_of sums.now) (g.simple_of simple.now) }
+fn is_simple_print(others: &Others, simple: &SimpleStatement) -> bool
+    ensures { result ≡ is_simple_print (sums_of others.now.sums.now) (shown_in others.now.known.now) (g.simple_of simple.now) }
 {
     match simple {
-        SimpleStatement::Print(_, list, output) => is_printed(sums, list) && is_standard(output),
+        SimpleStatement::Print(_, list, output) => is_printed(others, list) && is_standard(output),
         _ => false,
     }
 }
@@ -118,37 +117,79 @@ fn may_be_set(sums: &[Sum], name: &[u8]) -> bool
     !(is_taken(name) || is_sum(sums, name))
 }
 
+/// Whether a statement of END does no more than print what it reads of sums, by conditions and for their keys, where
+/// these variables may be read before it. Where it does, the same may be read behind the call.
 #[cycle(statements)]
-fn only_prints(sums: &[Sum], s: &Statement) -> bool
-    ensures { result ≡ only_prints (sums_of sums.now) (g.statement_of s.now) }
+fn only_prints(sums: &[Sum], known: &mut Known, s: &Statement) -> Result<bool, AllocError>
+    ensures is { IfOk result (λ is. is ≡ only_prints (own_of known.old) (sums_of sums.now) (shown_in known.old) (g.statement_of s.now)) }
+    ensures own { OnOk result (own_of known.new ≡ own_of known.old) }
+    ensures set { result ≡ Ok true → set_of known.new ≡ set_of known.old }
 {
     match s {
-        Statement::Empty => true,
-        Statement::Simple(simple) => is_simple_print(sums, simple),
-        Statement::Block(all) => all_only_print(sums, all),
-        Statement::If(c, s) => reads_sums(sums, c) && only_prints(sums, s),
+        Statement::Empty => Ok(true),
+        Statement::Simple(simple) => Ok(is_simple_print(&Others { sums, known }, simple)),
+        Statement::Block(all) => all_only_print(sums, known, all),
+        Statement::If(c, s) => {
+            Ok(reads_sums(&Others { sums, known }, c) && only_prints(sums, known, s)?)
+        }
         Statement::IfElse(c, s, other) => {
-            reads_sums(sums, c) && only_prints(sums, s) && only_prints(sums, other)
+            if !reads_sums(&Others { sums, known }, c) {
+                return Ok(false);
+            }
+            if !only_prints(sums, known, s)? {
+                return Ok(false);
+            }
+            only_prints(sums, known, other)
         }
-        Statement::ForIn(variable, array, s) => {
-            may_be_set(sums, variable.as_slice())
-                && is_array_sum(sums, array.as_slice())
-                && only_prints(sums, s)
-        }
-        Statement::While(_, _) | Statement::Do(_, _) | Statement::For(_, _) => false,
+        Statement::ForIn(variable, array, s) => is_walk(sums, known, variable, array, s),
+        Statement::While(_, _) | Statement::Do(_, _) | Statement::For(_, _) => Ok(false),
     }
+}
+
+/// The same of a loop over keys, which may read the variable that gets them.
+#[cycle(statements)]
+fn is_walk(
+    sums: &[Sum],
+    known: &mut Known,
+    variable: &Bytes,
+    array: &Bytes,
+    body: &Statement,
+) -> Result<bool, AllocError>
+    ensures is { IfOk result (λ is. is ≡ only_prints (own_of known.old) (sums_of sums.now) (shown_in known.old) (ForIn variable.now array.now (g.statement_of body.now))) }
+    ensures own { OnOk result (own_of known.new ≡ own_of known.old) }
+    ensures set { result ≡ Ok true → set_of known.new ≡ set_of known.old }
+{
+    if !may_be_set(sums, variable.as_slice()) {
+        return Ok(false);
+    }
+    if !is_array_sum(sums, array.as_slice()) {
+        return Ok(false);
+    }
+    let count = known.len();
+    known.add(Some(variable))?;
+    if !only_prints(sums, known, body)? {
+        return Ok(false);
+    }
+    known.truncate(count);
+    Ok(true)
 }
 
 /// Whether the statements of END do no more than print what they read of sums to standard output, by conditions and
 /// for the keys of sums.
 #[cycle(statements)]
-pub(crate) fn all_only_print(sums: &[Sum], all: &[Statement]) -> bool
-    ensures { result ≡ all_only_print (sums_of sums.now) (g.statements_of all.now) }
+pub(crate) fn all_only_print(
+    sums: &[Sum],
+    known: &mut Known,
+    all: &[Statement],
+) -> Result<bool, AllocError>
+    ensures is { IfOk result (λ is. is ≡ all_only_print (own_of known.old) (sums_of sums.now) (shown_in known.old) (g.statements_of all.now)) }
+    ensures own { OnOk result (own_of known.new ≡ own_of known.old) }
+    ensures set { result ≡ Ok true → set_of known.new ≡ set_of known.old }
 {
     for s in all {
-        if !only_prints(sums, s) {
-            return false;
+        if !only_prints(sums, known, s)? {
+            return Ok(false);
         }
     }
-    true
+    Ok(true)
 }

@@ -7,6 +7,7 @@ mod end_actions;
 mod item_texts;
 mod laws;
 mod mergeable;
+mod others;
 mod record_rules;
 mod same;
 mod sums;

@@ -1,30 +1,33 @@
 // Whether the sums of a program can be gathered from pieces of its input.
 
-ghost use Rattle.std.specs.Prelude.{◌≡◌, not, true};
+ghost use Rattle.std.specs.Prelude.{◌≡◌, not, true, [], Ok, IfOk, OnOk};
 ghost use Rattle.awk_lex.specs.declared.token.AssignmentOperator.{AssignmentOperator};
 ghost use Rattle.awk_grammar.specs.Tree as t;
 ghost use Rattle.awk_grammar.specs.View as g;
 ghost use Rattle.awk_semantics.specs.Items.{is_rule, has_rule};
+ghost use Rattle.awk_pieces.specs.support.Known.{own_of, set_of};
 ghost use Rattle.awk_merging.specs.definitions.Sums as s;
 ghost use Rattle.awk_merging.specs.definitions.LawOfCells.{IsLine};
 ghost use Rattle.awk_merging.specs.definitions.LawOfDerived.{IsOneOf};
-ghost use Rattle.awk_merging.specs.definitions.Mergeable.{is_sum, sets_no_sum, only_sets_others, all_only_set_others, is_mergeable_item, are_mergeable};
+ghost use Rattle.awk_merging.specs.definitions.Mergeable.{own_in, is_sum, sets_no_sum, only_sets_others, all_only_set_others, is_mergeable_item, are_mergeable};
 ghost use Rattle.awk_merging.specs.support.Lines.{is_line};
 ghost use Rattle.awk_merging.specs.support.SumsOf.{sums_of};
 
 use crate::end_actions::all_only_print;
-use crate::record_rules::{Others, all_only_sum};
+use crate::others::{Others, is_other};
+use crate::record_rules::all_only_sum;
 use crate::sums::{Sum, is_sum};
 use awk_grammar::tree::{Expr, Item, SimpleStatement, Statement, Tree};
-use awk_pieces::{Readable, all_only_set, pattern_keeps_to_record};
+use awk_pieces::{Known, all_only_set, names_set_in_rules, pattern_keeps_to_record};
+use std::alloc::{AllocError, Global};
 
-/// Whether the place is a variable that a rule may read: BEGIN sets no other.
-fn is_other(sums: &[Sum], place: &Expr) -> bool
+/// Whether the place is a variable that BEGIN may set: no sum, and no other one on each piece.
+fn is_other_place(sums: &[Sum], place: &Expr) -> bool
     ensures { (o : AssignmentOperator) (e : t.Expr) →
         result ≡ sets_no_sum (sums_of sums.now) (t.Assign o (g.expr_of place.now) e) }
 {
     match place {
-        Expr::Name(name) => Others { sums }.has(name.as_slice()),
+        Expr::Name(name) => is_other(sums, name.as_slice()),
         _ => false,
     }
 }
@@ -33,7 +36,7 @@ fn sets_no_sum(sums: &[Sum], e: &Expr) -> bool
     ensures { result ≡ sets_no_sum (sums_of sums.now) (g.expr_of e.now) }
 {
     match e {
-        Expr::Assign(_, place, _) => is_other(sums, place),
+        Expr::Assign(_, place, _) => is_other_place(sums, place),
         _ => false,
     }
 }
@@ -59,32 +62,45 @@ fn all_only_set_others(sums: &[Sum], all: &[Statement]) -> bool
     true
 }
 
-fn is_mergeable_item(sums: &[Sum], item: &Item) -> bool
-    ensures { result ≡ is_mergeable_item (sums_of sums.now) (g.item_of item.now) }
+/// Whether an item may do what it does. The same is known behind the call, where it may.
+fn is_mergeable_item(sums: &[Sum], known: &mut Known, item: &Item) -> Result<bool, AllocError>
+    requires { set_of known.now ≡ [] }
+    ensures is { IfOk result (λ is. is ≡ is_mergeable_item (own_of known.old) (sums_of sums.now) (g.item_of item.now)) }
+    ensures own { OnOk result (own_of known.new ≡ own_of known.old) }
+    ensures set { result ≡ Ok true → set_of known.new ≡ [] }
 {
     match item {
-        Item::Begin(block) => all_only_set(block) && all_only_set_others(sums, block),
-        Item::Action(block) => all_only_sum(sums, block),
+        Item::Begin(block) => Ok(all_only_set(block) && all_only_set_others(sums, block)),
+        Item::Action(block) => all_only_sum(sums, known, block),
         Item::PatternAction(pattern, block) => {
-            pattern_keeps_to_record(&Others { sums }, pattern) && all_only_sum(sums, block)
+            Ok(
+                pattern_keeps_to_record(&Others { sums, known }, pattern)
+                    && all_only_sum(sums, known, block)?,
+            )
         }
-        Item::End(block) => all_only_print(sums, block),
-        Item::PatternOnly(_) | Item::Function(_, _, _) => false,
+        Item::End(block) => all_only_print(sums, known, block),
+        Item::PatternOnly(_) | Item::Function(_, _, _) => Ok(false),
     }
 }
 
 /// Whether the program does no more than sum up, where these are its sums as `sums_of` gives them: BEGIN sets
 /// variables, the rules add to sums what the record gives and show nothing, and END prints what it reads of the sums.
 /// Then they can be gathered from pieces of its input: `law_of_merging` says so.
-pub fn is_mergeable(tree: &Tree, sums: &[Sum]) -> bool
-    ensures { result ≡ are_mergeable (sums_of sums.now) (g.tree_of tree.now) }
+///
+/// # Errors
+///
+/// Where memory is refused.
+pub fn is_mergeable(alloc: Global, tree: &Tree, sums: &[Sum]) -> Result<bool, AllocError>
+    ensures { IfOk result (λ is. is ≡ are_mergeable (own_in (g.tree_of tree.now)) (sums_of sums.now) (g.tree_of tree.now)) }
 {
+    let names = names_set_in_rules(alloc, &tree.items)?;
+    let mut known = Known::new(alloc, &names);
     for item in tree.items.as_slice() {
-        if !is_mergeable_item(sums, item) {
-            return false;
+        if !is_mergeable_item(sums, &mut known, item)? {
+            return Ok(false);
         }
     }
-    true
+    Ok(true)
 }
 
 fn is_line(text: &[u8]) -> bool

@@ -5,14 +5,14 @@ use Rattle.awk_lex.specs.declared.token.IncrementOperator.TheVariants as increme
 use Rattle.awk_lex.specs.declared.token.Operator.TheVariants as operator
 use Rattle.awk_grammar.specs.declared.tree.BinaryOperator.TheVariants.{Infix}
 use Rattle.awk_grammar.specs.declared.tree.PrintForm.TheVariants as form
-use Rattle.awk_grammar.specs.Tree.{Expr, Number, Name, Element, Field, PostIncrement, Binary, Assign, Nil, Cons, Bare, Standard, Expression, Print, Statement, Simple, If, ForIn, Statements, NoMore, Then, Single, Item, End, Action, PatternAction}
+use Rattle.awk_grammar.specs.Tree.{Expr, Number, Name, Element, Field, PostIncrement, Binary, Assign, Nil, Cons, Bare, Standard, AnExpr, Expression, Print, ASimple, Statement, Simple, If, ForIn, For, Statements, NoMore, Then, Single, Item, End, Action, PatternAction}
 use Rattle.awk_record.specs.definitions.Cut.{AtEnd}
 use Rattle.awk_streams.specs.Oracle.{Oracle}
 use Rattle.awk_semantics.specs.definitions.Meaning.{StartValues, meaning_of}
 use Rattle.awk_pieces.specs.definitions.LawOfPieces.{Prints}
 use Rattle.awk_merging.specs.definitions.Derived.{each_of, all_of}
 use Rattle.awk_merging.specs.definitions.Sums.{ByKey, Alone}
-use Rattle.awk_merging.specs.definitions.Mergeable.{sums_of_program, are_mergeable, IsMergeable}
+use Rattle.awk_merging.specs.definitions.Mergeable.{own_in, sums_of_program, are_mergeable, IsMergeable}
 
 abbrev pub field : ℕ → Expr
 field n = Field (Number (pos n))
@@ -63,14 +63,40 @@ ends_with_record = Action (one count) ∷ End (one (print (field 0))) ∷ []
 abbrev pub sets : List Item
 sets = Action (Then count (one (Simple (Expression (Assign assignment.Plain (Element (codes "n") (Cons (field 1) Nil)) (Number (pos 1))))))) ∷ shows ∷ []
 
+-- for (i = 1; CONDITION; i++) n[$i]++, a loop by a variable of the record
+abbrev pub loop : Expr → Statement
+loop condition =
+    For (ASimple (Expression (Assign assignment.Plain (Name (codes "i")) (Number (pos 1))))) (AnExpr condition) (ASimple (Expression (PostIncrement increment.Increment (Name (codes "i")))))
+    (Simple (Expression (PostIncrement increment.Increment (Element (codes "n") (Cons (Field (Name (codes "i"))) Nil)))))
+
+-- END { for (i in n) print i }: the loop over keys sets the variable anew
+abbrev pub shows_keys : Item
+shows_keys = End (one (ForIn (codes "i") (codes "n") (print (Name (codes "i")))))
+
+-- { for (i = 1; i <= NF; i++) n[$i]++ } END { .. }
+abbrev pub loops : List Item
+loops = Action (one (loop (Binary (Infix operator.LessEqual) (Name (codes "i")) (Name (codes "NF"))))) ∷ shows_keys ∷ []
+
+-- { for (i = 1; n[$1] < 3; i++) n[$i]++ } END { .. }: a loop reads a sum
+abbrev pub loops_by_sum : List Item
+loops_by_sum = Action (one (loop (Binary (Infix operator.Less) (Element (codes "n") (Cons (field 1) Nil)) (Number (pos 3))))) ∷ shows_keys ∷ []
+
+-- { for (i = 1; i <= NF; i++) n[$i]++ } END { print i }: END reads what the last record set
+abbrev pub ends_with_variable : List Item
+ends_with_variable = Action (one (loop (Binary (Infix operator.LessEqual) (Name (codes "i")) (Name (codes "NF"))))) ∷ End (one (print (Name (codes "i")))) ∷ []
+
 pub record ExamplesOfClass : Type 0 where
   pub is_one : IsMergeable counts
+  pub is_loop : IsMergeable loops
+  pub loop_has_sum : sums_of_program loops ≡ ByKey (codes "n") ∷ []
   pub has_sums : sums_of_program counts ≡ ByKey (codes "n") ∷ Alone (codes "s") ∷ []
-  pub not_reads : are_mergeable (sums_of_program reads) reads ≡ false
-  pub not_numbers : are_mergeable (sums_of_program numbers_records) numbers_records ≡ false
-  pub not_prints : are_mergeable (sums_of_program prints) prints ≡ false
-  pub not_record : are_mergeable (sums_of_program ends_with_record) ends_with_record ≡ false
-  pub not_sets : are_mergeable (sums_of_program sets) sets ≡ false
+  pub not_reads : are_mergeable (own_in reads) (sums_of_program reads) reads ≡ false
+  pub not_numbers : are_mergeable (own_in numbers_records) (sums_of_program numbers_records) numbers_records ≡ false
+  pub not_prints : are_mergeable (own_in prints) (sums_of_program prints) prints ≡ false
+  pub not_record : are_mergeable (own_in ends_with_record) (sums_of_program ends_with_record) ends_with_record ≡ false
+  pub not_sets : are_mergeable (own_in sets) (sums_of_program sets) sets ≡ false
+  pub not_loop : are_mergeable (own_in loops_by_sum) (sums_of_program loops_by_sum) loops_by_sum ≡ false
+  pub not_variable : are_mergeable (own_in ends_with_variable) (sums_of_program ends_with_variable) ends_with_variable ≡ false
 
 -- The two programs that are derived of one, run over two pieces, and the program over both.
 

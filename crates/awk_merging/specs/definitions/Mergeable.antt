@@ -1,14 +1,14 @@
 -- Programs that sum up what their records give, and print it behind them: those that are to run on pieces of an input, and whose
 -- sums are then added.
-use Rattle.std.specs.Prelude.{◌≡◌, ℕ, Bool, true, false, not, ◌&&◌, ◌||◌, if◌then◌else◌, List, [], ◌∷◌, ◌++◌, codes, bytes_eq}
+use Rattle.std.specs.Prelude.{◌≡◌, ℕ, Bool, true, false, not, ◌&&◌, ◌||◌, if◌then◌else◌, List, [], ◌∷◌, ◌++◌, Some, codes, bytes_eq}
 use Rattle.awk_lex.specs.declared.token.AssignmentOperator.{AssignmentOperator}
 use Rattle.awk_lex.specs.declared.token.AssignmentOperator.TheVariants as assignment
 use Rattle.awk_lex.specs.declared.token.BuiltIn.{BuiltIn as BuiltInName}
 use Rattle.awk_lex.specs.declared.token.BuiltIn.TheVariants as builtin
 use Rattle.awk_lex.specs.declared.token.IncrementOperator.{IncrementOperator}
 use Rattle.awk_lex.specs.declared.token.IncrementOperator.TheVariants as increment
-use Rattle.awk_grammar.specs.Tree.{Expr, Number, String, Name, Element, Group, BuiltIn, PreIncrement, PostIncrement, Unary, Binary, Membership, ListMembership, Conditional, Assign, Exprs, Nil, Cons, PrintList, Bare, Parenthesized, Output, Standard, Redirected, SimpleStatement, Expression, Print, Next, Statement, Empty, Simple, Block, If, IfElse, ForIn, Statements, NoMore, Then, Item, Begin, End, Action, PatternAction}
-use Rattle.awk_pieces.specs.definitions.Pieceable.{tells_apart, no_own, keeps_to_record, all_keep_to_record, all_only_set, pattern_keeps_to_record}
+use Rattle.awk_grammar.specs.Tree.{Expr, Number, String, Name, Element, Group, BuiltIn, PreIncrement, PostIncrement, Unary, Binary, Membership, ListMembership, Conditional, Assign, Exprs, Nil, Cons, PrintList, Bare, Parenthesized, Output, Standard, Redirected, SimpleStatement, Expression, Print, Next, Break, Continue, OptionalSimple, NoSimple, ASimple, Statement, Empty, Simple, Block, If, IfElse, While, Do, ForIn, For, Statements, NoMore, Then, Item, Begin, End, Action, PatternAction}
+use Rattle.awk_pieces.specs.definitions.Pieceable.{tells_apart, keeps_to_record, all_keep_to_record, may_keep_to_record, all_only_set, pattern_keeps_to_record, names_set_in_rules, is_own, sets_own, name_set_first, also, behind}
 use Rattle.awk_merging.specs.definitions.Sums.{Sum, ByKey, Alone, name_of_sum, merge_what, merge_key, is_taken}
 
 -- Which sums a program has.
@@ -22,43 +22,55 @@ abbrev pub is_plus_one : IncrementOperator → Bool
 is_plus_one increment.Increment = true
 is_plus_one increment.Decrement = false
 
--- the sum of a place: an element or a variable that isn't awk's own
-abbrev pub sum_of_place : (place : Expr) → List Sum
-sum_of_place (Element a es) = if is_taken a then [] else ByKey a ∷ []
-sum_of_place (Name x) = if is_taken x then [] else Alone x ∷ []
-sum_of_place e = []
+-- the variables of the record that a program has
+abbrev pub own_in : List Item → List ℕ → Bool
+own_in items = is_own (names_set_in_rules items)
 
--- the sum that an expression adds to, where it does
-abbrev pub sum_added_to : Expr → List Sum
-sum_added_to (Assign operator place e) = if is_plus operator then sum_of_place place else []
-sum_added_to (PreIncrement operator place) = if is_plus_one operator then sum_of_place place else []
-sum_added_to (PostIncrement operator place) = if is_plus_one operator then sum_of_place place else []
-sum_added_to e = []
+module _ (own : List ℕ → Bool) where
+  -- the sum of a place: an element or a variable that is neither awk's own nor of the record
+  abbrev pub sum_of_place : (place : Expr) → List Sum
+  sum_of_place (Element a es) = if is_taken a || own a then [] else ByKey a ∷ []
+  sum_of_place (Name x) = if is_taken x || own x then [] else Alone x ∷ []
+  sum_of_place e = []
 
-abbrev pub sum_in_simple : SimpleStatement → List Sum
-sum_in_simple (Expression e) = sum_added_to e
-sum_in_simple simple = []
+  -- the sum that an expression adds to, where it does
+  abbrev pub sum_added_to : Expr → List Sum
+  sum_added_to (Assign operator place e) = if is_plus operator then sum_of_place place else []
+  sum_added_to (PreIncrement operator place) = if is_plus_one operator then sum_of_place place else []
+  sum_added_to (PostIncrement operator place) = if is_plus_one operator then sum_of_place place else []
+  sum_added_to e = []
 
-abbrev mutual
-  pub sums_in : Statement → List Sum
-  sums_in (Simple simple) = sum_in_simple simple
-  sums_in (Block all) = sums_in_all all
-  sums_in (If c s) = sums_in s
-  sums_in (IfElse c s other) = sums_in s ++ sums_in other
-  sums_in s = []
+  abbrev pub sum_in_simple : SimpleStatement → List Sum
+  sum_in_simple (Expression e) = sum_added_to e
+  sum_in_simple simple = []
 
-  pub sums_in_all : Statements → List Sum
-  sums_in_all NoMore = []
-  sums_in_all (Then s all) = sums_in s ++ sums_in_all all
+  abbrev pub sum_in_part : OptionalSimple → List Sum
+  sum_in_part NoSimple = []
+  sum_in_part (ASimple simple) = sum_in_simple simple
 
-abbrev pub sums_in_item : Item → List Sum
-sums_in_item (Action block) = sums_in_all block
-sums_in_item (PatternAction p block) = sums_in_all block
-sums_in_item x = []
+  abbrev mutual
+    pub sums_in : Statement → List Sum
+    sums_in (Simple simple) = sum_in_simple simple
+    sums_in (Block all) = sums_in_all all
+    sums_in (If c s) = sums_in s
+    sums_in (IfElse c s other) = sums_in s ++ sums_in other
+    sums_in (While c s) = sums_in s
+    sums_in (Do s c) = sums_in s
+    sums_in (For first c last s) = sum_in_part first ++ (sum_in_part last ++ sums_in s)
+    sums_in s = []
 
-abbrev pub sums_in_items : List Item → List Sum
-sums_in_items [] = []
-sums_in_items (x ∷ xs) = sums_in_item x ++ sums_in_items xs
+    pub sums_in_all : Statements → List Sum
+    sums_in_all NoMore = []
+    sums_in_all (Then s all) = sums_in s ++ sums_in_all all
+
+  abbrev pub sums_in_item : Item → List Sum
+  sums_in_item (Action block) = sums_in_all block
+  sums_in_item (PatternAction p block) = sums_in_all block
+  sums_in_item x = []
+
+  abbrev pub sums_in_items : List Item → List Sum
+  sums_in_items [] = []
+  sums_in_items (x ∷ xs) = sums_in_item x ++ sums_in_items xs
 
 -- the sums of other names
 abbrev pub without_name : List ℕ → List Sum → List Sum
@@ -71,7 +83,7 @@ each_once [] = []
 each_once (x ∷ xs) = x ∷ without_name (name_of_sum x) (each_once xs)
 
 abbrev pub sums_of_program : List Item → List Sum
-sums_of_program items = each_once (sums_in_items items)
+sums_of_program items = each_once (sums_in_items (own_in items) items)
 
 -- What its items may do, where these are the sums.
 
@@ -97,6 +109,10 @@ is_derived x = bytes_eq x merge_what || bytes_eq x merge_key
 abbrev pub is_shown : List ℕ → Bool
 is_shown x = not (tells_apart x || (is_derived x || bytes_eq x (codes "NF")))
 
+-- and no variable of the record: the last record set that. A loop over keys sets it anew
+abbrev pub shows : (own : List ℕ → Bool) → List ℕ → Bool
+shows own x = is_shown x && not (own x)
+
 -- the built-in functions that make a value of values; without an argument `length` is that of the record
 abbrev pub is_of_values : BuiltInName → Exprs → Bool
 is_of_values builtin.Length Nil = false
@@ -113,61 +129,79 @@ abbrev pub is_standard : Output → Bool
 is_standard Standard = true
 is_standard (Redirected way target) = false
 
-module _ (sums : List Sum) where
-  -- a rule reads no sum, and nothing that tells pieces apart
+-- a variable that is neither a sum nor another one on each piece
+abbrev pub is_other : List Sum → List ℕ → Bool
+is_other sums x = not (tells_apart x || (is_derived x || is_sum sums x))
+
+module _ (own : List ℕ → Bool) (sums : List Sum) where
+  -- a rule reads these as it begins, and behind that the variables of the record that were set
   abbrev pub knows : List ℕ → Bool
-  knows x = not (tells_apart x || (is_derived x || is_sum sums x))
+  knows x = is_other sums x && not (own x)
 
-  -- an addition to a sum of what the record gives
-  abbrev pub is_sum_place : (place : Expr) → Bool
-  is_sum_place (Element a es) = is_array_sum sums a && all_keep_to_record no_own knows es
-  is_sum_place (Name x) = is_variable_sum sums x
-  is_sum_place e = false
+  module _ (known : List ℕ → Bool) where
+    -- an addition to a sum of what the record gives
+    abbrev pub is_sum_place : (place : Expr) → Bool
+    is_sum_place (Element a es) = is_array_sum sums a && all_keep_to_record own known es
+    is_sum_place (Name x) = is_variable_sum sums x
+    is_sum_place e = false
 
-  abbrev pub is_addition : Expr → Bool
-  is_addition (Assign operator place e) = is_plus operator && (is_sum_place place && keeps_to_record no_own knows e)
-  is_addition (PreIncrement operator place) = is_plus_one operator && is_sum_place place
-  is_addition (PostIncrement operator place) = is_plus_one operator && is_sum_place place
-  is_addition e = false
+    abbrev pub is_addition : Expr → Bool
+    is_addition (Assign operator place e) = is_plus operator && (is_sum_place place && keeps_to_record own known e)
+    is_addition (PreIncrement operator place) = is_plus_one operator && is_sum_place place
+    is_addition (PostIncrement operator place) = is_plus_one operator && is_sum_place place
+    is_addition e = false
 
-  abbrev pub is_simple_summing : SimpleStatement → Bool
-  is_simple_summing (Expression e) = is_addition e || keeps_to_record no_own knows e
-  is_simple_summing Next = true
-  is_simple_summing simple = false
+    abbrev pub is_simple_summing : SimpleStatement → Bool
+    is_simple_summing (Expression e) = is_addition e || (sets_own own known e || keeps_to_record own known e)
+    is_simple_summing Next = true
+    is_simple_summing Break = true
+    is_simple_summing Continue = true
+    is_simple_summing simple = false
 
-  -- a statement of a rule: it adds to sums, changes the record, and prints nothing
+    abbrev pub is_part_summing : OptionalSimple → Bool
+    is_part_summing NoSimple = true
+    is_part_summing (ASimple simple) = is_simple_summing simple
+
+  -- a statement of a rule: it adds to sums, changes the record and its variables, and prints nothing
   abbrev mutual
-    pub only_sums : Statement → Bool
-    only_sums Empty = true
-    only_sums (Simple simple) = is_simple_summing simple
-    only_sums (Block all) = all_only_sum all
-    only_sums (If c s) = keeps_to_record no_own knows c && only_sums s
-    only_sums (IfElse c s other) = keeps_to_record no_own knows c && (only_sums s && only_sums other)
-    only_sums s = false
+    pub only_sums : (known : List ℕ → Bool) → Statement → Bool
+    only_sums known Empty = true
+    only_sums known (Simple simple) = is_simple_summing known simple
+    only_sums known (Block all) = all_only_sum known all
+    only_sums known (If c s) = keeps_to_record own known c && only_sums known s
+    only_sums known (IfElse c s other) = keeps_to_record own known c && (only_sums known s && only_sums known other)
+    only_sums known (While c s) = keeps_to_record own known c && only_sums known s
+    only_sums known (Do s c) = keeps_to_record own known c && only_sums known s
+    only_sums known (For first c last s) =
+        is_part_summing known first && (may_keep_to_record own (also own (name_set_first first) known) c
+        && (is_part_summing (also own (name_set_first first) known) last && only_sums (also own (name_set_first first) known) s))
+    only_sums known s = false
 
-    pub all_only_sum : Statements → Bool
-    all_only_sum NoMore = true
-    all_only_sum (Then s all) = only_sums s && all_only_sum all
+    pub all_only_sum : (known : List ℕ → Bool) → Statements → Bool
+    all_only_sum known NoMore = true
+    all_only_sum known (Then s all) = only_sums known s && all_only_sum (behind own s known) all
 
-  -- BEGIN sets variables, and none of them is a sum
-  abbrev pub sets_no_sum : Expr → Bool
-  sets_no_sum (Assign operator (Name x) e) = knows x
-  sets_no_sum e = false
+-- BEGIN sets variables, and none of them is a sum
+abbrev pub sets_no_sum : List Sum → Expr → Bool
+sets_no_sum sums (Assign operator (Name x) e) = is_other sums x
+sets_no_sum sums e = false
 
-  abbrev pub only_sets_others : Statement → Bool
-  only_sets_others Empty = true
-  only_sets_others (Simple (Expression e)) = sets_no_sum e
-  only_sets_others s = false
+abbrev pub only_sets_others : List Sum → Statement → Bool
+only_sets_others sums Empty = true
+only_sets_others sums (Simple (Expression e)) = sets_no_sum sums e
+only_sets_others sums s = false
 
-  abbrev pub all_only_set_others : Statements → Bool
-  all_only_set_others NoMore = true
-  all_only_set_others (Then s all) = only_sets_others s && all_only_set_others all
+abbrev pub all_only_set_others : List Sum → Statements → Bool
+all_only_set_others sums NoMore = true
+all_only_set_others sums (Then s all) = only_sets_others sums s && all_only_set_others sums all
 
+-- What END prints, where it may read these variables.
+module _ (sums : List Sum) (shown : List ℕ → Bool) where
   abbrev mutual
     pub reads_sums : Expr → Bool
     reads_sums (Number n) = true
     reads_sums (String bytes) = true
-    reads_sums (Name x) = is_shown x
+    reads_sums (Name x) = shown x
     reads_sums (Element a es) = is_array_sum sums a && all_read_sums es
     reads_sums (Group e) = reads_sums e
     reads_sums (Unary o e) = reads_sums e
@@ -195,26 +229,27 @@ module _ (sums : List Sum) where
   is_simple_print (Print form list output) = is_printed list && is_standard output
   is_simple_print simple = false
 
+module _ (own : List ℕ → Bool) (sums : List Sum) where
   -- a statement of END: it prints to standard output, by conditions, and for the keys of sums
   abbrev mutual
-    pub only_prints : Statement → Bool
-    only_prints Empty = true
-    only_prints (Simple simple) = is_simple_print simple
-    only_prints (Block all) = all_only_print all
-    only_prints (If c s) = reads_sums c && only_prints s
-    only_prints (IfElse c s other) = reads_sums c && (only_prints s && only_prints other)
-    only_prints (ForIn x a s) = not (is_taken x || is_sum sums x) && (is_array_sum sums a && only_prints s)
-    only_prints s = false
+    pub only_prints : (shown : List ℕ → Bool) → Statement → Bool
+    only_prints shown Empty = true
+    only_prints shown (Simple simple) = is_simple_print sums shown simple
+    only_prints shown (Block all) = all_only_print shown all
+    only_prints shown (If c s) = reads_sums sums shown c && only_prints shown s
+    only_prints shown (IfElse c s other) = reads_sums sums shown c && (only_prints shown s && only_prints shown other)
+    only_prints shown (ForIn x a s) = not (is_taken x || is_sum sums x) && (is_array_sum sums a && only_prints (also own (Some x) shown) s)
+    only_prints shown s = false
 
-    pub all_only_print : Statements → Bool
-    all_only_print NoMore = true
-    all_only_print (Then s all) = only_prints s && all_only_print all
+    pub all_only_print : (shown : List ℕ → Bool) → Statements → Bool
+    all_only_print shown NoMore = true
+    all_only_print shown (Then s all) = only_prints shown s && all_only_print shown all
 
   abbrev pub is_mergeable_item : Item → Bool
-  is_mergeable_item (Begin block) = all_only_set block && all_only_set_others block
-  is_mergeable_item (Action block) = all_only_sum block
-  is_mergeable_item (PatternAction p block) = pattern_keeps_to_record no_own knows p && all_only_sum block
-  is_mergeable_item (End block) = all_only_print block
+  is_mergeable_item (Begin block) = all_only_set block && all_only_set_others sums block
+  is_mergeable_item (Action block) = all_only_sum own sums (knows own sums) block
+  is_mergeable_item (PatternAction p block) = pattern_keeps_to_record own (knows own sums) p && all_only_sum own sums (knows own sums) block
+  is_mergeable_item (End block) = all_only_print (shows own) block
   is_mergeable_item x = false
 
   abbrev pub are_mergeable : List Item → Bool
@@ -223,4 +258,4 @@ module _ (sums : List Sum) where
 
 -- a program whose sums can be gathered from pieces of its input
 abbrev pub IsMergeable : List Item → Type 0
-IsMergeable items = are_mergeable (sums_of_program items) items ≡ true
+IsMergeable items = are_mergeable (own_in items) (sums_of_program items) items ≡ true

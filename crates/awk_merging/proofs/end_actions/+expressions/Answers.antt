@@ -27,7 +27,7 @@ pub reads_sums-returns-then-is_array_sum : goal.reads_sums-returns-then-is_array
 reads_sums-returns-then-is_array_sum t c =
     let is : expr_of c.args.e.now ≡ g.Element c.in-Element.array (exprs_of c.in-Element.subscripts.items) =
     search (rules, the_lemmas, row_is_list) in
-    let named : is_array_sum (sums_of c.args.sums.now) c.in-Element.array ≡ true =
+    let named : is_array_sum (sums_of c.args.others.now.sums.now) c.in-Element.array ≡ true =
     sym (rw c.as_slice-in-Element.ensures at c.is_array_sum.ensures) ∙ c.if-is_array_sum.true in
     rw (is, named) (rw c.deref-then-is_array_sum.ensures.value at c.all_read_sums.ensures)
 
@@ -35,6 +35,6 @@ pub reads_sums-returns-then-is_array_sum-2 : goal.reads_sums-returns-then-is_arr
 reads_sums-returns-then-is_array_sum-2 t c =
     let is : expr_of c.args.e.now ≡ g.ListMembership (exprs_of c.in-ListMembership.list.items) c.in-ListMembership.array =
     search (rules, the_lemmas, row_is_list) in
-    let named : is_array_sum (sums_of c.args.sums.now) c.in-ListMembership.array ≡ true =
+    let named : is_array_sum (sums_of c.args.others.now.sums.now) c.in-ListMembership.array ≡ true =
     sym (rw c.as_slice-in-ListMembership.ensures at c.is_array_sum-in-ListMembership.ensures) ∙ c.if-is_array_sum-2.true in
     rw (is, named) (rw c.deref-then-is_array_sum-2.ensures.value at c.all_read_sums-then-is_array_sum-2.ensures)

@@ -1,10 +1,14 @@
 use Rattle.std.proofs.Common.{◌≡◌, drop}
 use Rattle.awk_grammar.specs.View.{statements_of}
+use Rattle.awk_kinds.specs.Names.{IsFront}
+use Rattle.awk_pieces.specs.support.Known.{own_of, set_of}
 use Rattle.awk_merging.specs.definitions.Mergeable.{all_only_sum}
+use Rattle.awk_merging.specs.support.Others.{known_in}
 use Rattle.awk_merging.specs.support.SumsOf.{sums_of}
 use Rattle.awk_merging.proofs.record_rules.+statements.Given as goal
 
 abbrev pub invariant-all_only_sum-loop-s : goal.invariant-all_only_sum-loop-s
 invariant-all_only_sum-loop-s l =
-    all_only_sum (sums_of l.sums) (statements_of (drop l.s-index l.all))
-    ≡ all_only_sum (sums_of l.sums) (statements_of l.all)
+    (own_of l.known ≡ own_of l.fn.known) × IsFront (set_of l.fn.known) (set_of l.known)
+    × (all_only_sum (own_of l.known) (sums_of l.sums) (known_in (sums_of l.sums) l.known) (statements_of (drop l.s-index l.all))
+    ≡ all_only_sum (own_of l.fn.known) (sums_of l.sums) (known_in (sums_of l.sums) l.fn.known) (statements_of l.all))
