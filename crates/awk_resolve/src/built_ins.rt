@@ -9,6 +9,7 @@ ghost use Rattle.awk_resolve.specs.support.Scopes.{Builds, LowersValue};
 
 use crate::builder::{Builder, next_number};
 use crate::calls::name_in;
+use crate::excluded::no_such_call;
 use crate::node::{Exchange, SplitBy, ValueNode};
 use crate::readings::is_read_behind;
 use crate::scope::Scope;
@@ -73,7 +74,17 @@ fn ere_and_string<'a>(pattern: &'a Expr, replacement: &'a Expr) -> Option<(&'a B
     Some((&ere.text, text))
 }
 
-// The functions below know the numbers of arguments that the grammar has; a call with another one is never parsed.
+/// The function that exchanges all matches, or the first.
+fn substitution(all: bool) -> BuiltIn
+    ensures { result ≡ substitution all }
+{
+    if all {
+        return BuiltIn::Gsub;
+    }
+    BuiltIn::Sub
+}
+
+// The functions below lower each number of arguments that the grammar has; a call with another one is never parsed.
 impl Builder {
     /// `length`
     #[cycle(expressions)]
@@ -94,7 +105,7 @@ impl Builder {
                 let length = self.push_value(ValueNode::Apply(BuiltIn::Length, 1), next)?;
                 self.lower(scope, e, length)
             }
-            _ => Err(AllocError),
+            _ => Err(no_such_call(BuiltIn::Length, list.len()).unwrap()),
         }
     }
 
@@ -110,7 +121,7 @@ impl Builder {
                 let flush = self.push_value(ValueNode::Flush, next)?;
                 self.lower(scope, name, flush)
             }
-            _ => Err(AllocError),
+            _ => Err(no_such_call(BuiltIn::Fflush, list.len()).unwrap()),
         }
     }
 
@@ -121,7 +132,7 @@ impl Builder {
         ensures { IfOk result (λ place. Builds scope.now self.old self.new place (Evaluate (tree.BuiltIn BuiltIn.Match (exprs_of list.now)) next)) }
     {
         let [text, pattern] = list else {
-            return Err(AllocError);
+            return Err(no_such_call(BuiltIn::Match, list.len()).unwrap());
         };
         let number = self.pattern_of(pattern)?;
         let found = self.push_value(ValueNode::Match(number), next)?;
@@ -149,7 +160,7 @@ impl Builder {
                 let right = self.lower_unless_ere(scope, separator, split)?;
                 self.lower(scope, text, right)
             }
-            _ => Err(AllocError),
+            _ => Err(no_such_call(BuiltIn::Split, list.len()).unwrap()),
         }
     }
 
@@ -239,7 +250,7 @@ impl Builder {
                 let right = self.lower(scope, replacement, operand)?;
                 self.lower_unless_ere(scope, pattern, right)
             }
-            _ => Err(AllocError),
+            _ => Err(no_such_call(substitution(all), list.len()).unwrap()),
         }
     }
 
@@ -267,7 +278,7 @@ impl Builder {
                     return Ok(place);
                 }
                 if takes_one(function) && list.len() != 1 {
-                    return Err(AllocError);
+                    return Err(no_such_call(function, list.len()).unwrap());
                 }
                 let count = next_number(list.len())?;
                 let last = self.push_value(strict_node(function, count), next)?;

@@ -1,11 +1,11 @@
 // Calls of a program's functions as nodes.
 
-ghost use Rattle.std.specs.Prelude.{◌≡◌, IfOk, slice_get};
+ghost use Rattle.std.specs.Prelude.{◌≡◌, IfOk, OnErr, None, slice_get};
 ghost use Rattle.std.specs.Option.{option_map};
 ghost use Rattle.awk_grammar.specs.Tree.{Call};
 ghost use Rattle.awk_grammar.specs.View.{expr_of, exprs_of};
 ghost use Rattle.awk_resolve.specs.support.Builds.{array_parameters_in, Stands, Evaluate, EvaluateArguments};
-ghost use Rattle.awk_resolve.specs.support.Calls.{arrays_of, is_array_at, name_in, roles_from, IsFormOf, AreForms};
+ghost use Rattle.awk_resolve.specs.support.Calls.{arrays_called, arrays_of, is_array_at, name_in, roles_from, IsCalled, IsFormOf, AreForms};
 ghost use Rattle.awk_resolve.specs.support.Scopes.{Builds};
 
 use crate::builder::Builder;
@@ -70,6 +70,21 @@ impl Builder {
         Some(are_arrays.as_slice())
     }
 
+    /// The number of the function of a name, and whether each of its parameters is an array. An `Err` is that there is
+    /// none: a program that calls what it doesn't define is refused before it is lowered.
+    fn called(&self, scope: &Scope, name: &[u8]) -> Result<(u32, &[bool]), AllocError>
+        ensures found { IfOk result (λ called. IsCalled scope.now self.now name.now called.0 called.1.now) }
+        ensures missing { OnErr result (arrays_called scope.now self.now name.now ≡ None) }
+    {
+        let Some(number) = scope.kinds.function(name) else {
+            return Err(AllocError);
+        };
+        let Some(are_arrays) = self.array_parameters_of(number) else {
+            return Err(AllocError);
+        };
+        Ok((number, are_arrays))
+    }
+
     /// Whether the parameter of a function at a place is an array.
     fn takes_array(&self, function: u32, place: usize) -> bool
         ensures { result ≡ is_array_at (arrays_of self.now function) place }
@@ -113,13 +128,7 @@ impl Builder {
         requires { Stands next self.old }
         ensures { IfOk result (λ place. Builds scope.now self.old self.new place (Evaluate (Call function.now (exprs_of list.now)) next)) }
     {
-        // A program that calls what it doesn't define is refused before it is lowered.
-        let Some(number) = scope.kinds.function(function.as_slice()) else {
-            return Err(AllocError);
-        };
-        let Some(are_arrays) = self.array_parameters_of(number) else {
-            return Err(AllocError);
-        };
+        let (number, are_arrays) = self.called(scope, function.as_slice())?;
         let forms = forms_of(self.alloc, scope, are_arrays, list)?;
         let call = self.push_value(ValueNode::Call(number, forms), next)?;
         self.lower_arguments(scope, number, list, call)

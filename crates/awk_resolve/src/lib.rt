@@ -9,6 +9,7 @@ mod built_ins;
 mod calls;
 mod changes;
 mod conditions;
+mod excluded;
 mod expressions;
 mod getlines;
 mod heights;

@@ -7,6 +7,7 @@ ghost use Rattle.awk_resolve.specs.support.Builds.{Stands, EvaluateOperand, Eval
 ghost use Rattle.awk_resolve.specs.support.Scopes.{Builds, FindsPlace, FindsOptionalPlace};
 
 use crate::builder::Builder;
+use crate::excluded::no_place;
 use crate::node::ValueNode;
 use crate::scope::Scope;
 use awk_grammar::tree::Expr;
@@ -27,8 +28,7 @@ impl Builder {
             Expr::Name(x) => Ok(Place::Variable(self.variable_of(scope, x.as_slice())?)),
             Expr::Element(x, _) => Ok(Place::Element(scope.array_of(x.as_slice())?)),
             Expr::Field(_) => Ok(Place::Field),
-            // The grammar has no other places.
-            _ => Err(AllocError),
+            _ => Err(no_place(p).unwrap()),
         }
     }
 
@@ -65,8 +65,7 @@ impl Builder {
             Expr::Name(_) => Ok(next),
             Expr::Element(_, list) => self.lower_key(scope, list, next),
             Expr::Field(e) => self.lower_field_number(scope, e, next),
-            // The grammar has no other places.
-            _ => Err(AllocError),
+            _ => Err(no_place(p).unwrap()),
         }
     }
 

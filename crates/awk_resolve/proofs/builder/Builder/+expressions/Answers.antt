@@ -411,13 +411,13 @@ lower_comparison-returns t c =
 -- calls
 
 pub lower_call-push_value-requires : goal.lower_call-push_value-requires
-lower_call-push_value-requires t c = call_fits c.args.scope.now (array_parameters_in c.args.self.now) c.in-Some.number c.in-Some-array_parameters_of.are_arrays.now c.in_ok-forms.forms.items _ (sym c.in-Some-array_parameters_of.ensures) c.in_ok-forms.ensures
+lower_call-push_value-requires t c = call_fits c.args.scope.now (array_parameters_in c.args.self.now) c.in_ok-number.number c.in_ok-number.are_arrays.now c.in_ok-forms.forms.items _ c.in_ok-number.ensures.found.arrays c.in_ok-forms.ensures
 
 pub lower_call-returns : goal.lower_call-returns
 lower_call-returns t c =
-    let bs = c.in-Some-array_parameters_of.are_arrays.now in
-    let arrays : bs ≡ arrays_of c.push_value.new.self c.in-Some.number = (let e = get_or_from_slice_get (array_parameters_in c.args.self.now) c.in-Some.number bs [] (sym c.in-Some-array_parameters_of.ensures) in sym e) ∙ sym (ap (λ (l : List (List Bool)). get_or l c.in-Some.number []) (arrays_same c.args.self.now c.push_value.new.self c.in_ok-call.ensures.same.functions)) in
-    ok_map _ (λ i q. call_lowered c.args.scope.now bs c.requires (rw c.as_slice.ensures at (sym c.in-Some.ensures)) (sym c.in-Some-array_parameters_of.ensures) c.in_ok-forms.ensures c.in_ok-call.ensures q) (rw (sym arrays) at c.lower_arguments.ensures)
+    let bs = c.in_ok-number.are_arrays.now in
+    let arrays : bs ≡ arrays_of c.push_value.new.self c.in_ok-number.number = (let e = get_or_from_slice_get (array_parameters_in c.args.self.now) c.in_ok-number.number bs [] c.in_ok-number.ensures.found.arrays in sym e) ∙ sym (ap (λ (l : List (List Bool)). get_or l c.in_ok-number.number []) (arrays_same c.args.self.now c.push_value.new.self c.in_ok-call.ensures.same.functions)) in
+    ok_map _ (λ i q. call_lowered c.args.scope.now bs c.requires (rw c.as_slice.ensures at c.in_ok-number.ensures.found.number) c.in_ok-number.ensures.found.arrays c.in_ok-forms.ensures c.in_ok-call.ensures q) (rw (sym arrays) at c.lower_arguments.ensures)
 
 pub lower_length-returns-in-empty : goal.lower_length-returns-in-empty
 lower_length-returns-in-empty t c = rw (exprs_over c.args.list.now 0 (omega arith)) (ok_map _ (λ i p. record_length_lowered c.requires p) c.push_value.ensures)
