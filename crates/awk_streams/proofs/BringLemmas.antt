@@ -8,7 +8,8 @@ use Rattle.awk_world.specs.definitions.Log.{Event, Wrote, Flushed}
 use Rattle.awk_world.specs.definitions.Oracle.{SameCounts}
 use Rattle.awk_world.specs.definitions.Orderly.{IsWritable, IsInOrder}
 use Rattle.awk_world.specs.definitions.Writes.{with_events, GoesOn}
-use Rattle.awk_world.specs.definitions.WorldState.{WorldState, SameOpen}
+use Rattle.awk_world.specs.definitions.WorldState.{WorldState, SameOpen, is_any}
+use Rattle.awk_world.specs.declared.failure.Failure.{Failure}
 use Rattle.awk_world.specs.definitions.Openings.{Opening, openings, in_order, receives, is_flushed, IsBeginning, Begins}
 use Rattle.awk_world.specs.definitions.Grows.{Grows}
 use Rattle.awk_streams.specs.declared.fault.StreamFault.{StreamFault}
@@ -17,7 +18,7 @@ use Rattle.awk_streams.specs.definitions.Outputs.{WritesAndFlushes}
 use Rattle.awk_streams.specs.support.Kept.{SameAt, AreOfOutput}
 use Rattle.awk_streams.specs.support.Held.{ChangesHeld}
 use Rattle.awk_streams.specs.support.Brings.{Touches, BringsHeld, AreFlushedBut}
-use Rattle.awk_streams.proofs.GrowsLemmas.{Grows-self, Grows-then, with_events-append}
+use Rattle.awk_streams.proofs.GrowsLemmas.{Grows-self, Grows-then, still_any, with_events-append}
 use Rattle.awk_streams.proofs.KeptLemmas.{quiet_streams, same_counts-self, same_counts-then}
 use Rattle.awk_streams.proofs.OpeningsLemmas.{receives-none, openings-writes, openings-flush}
 use Rattle.awk_streams.proofs.HeldLemmas.{change_brings, change_part}
@@ -162,7 +163,7 @@ then_ok x y z (Ok u) (Ok v) p q = q ∙ p
 then_ok x y z (Ok u) (Err e) p q = tt
 then_ok x y z (Err e) second p q = tt
 
-then_no_failure : (first second : Result (Unit {0}) StreamFault) (failure failure1 failure2 : Option ℕ) → OnOk first (failure1 ≡ failure) → OnOk second (failure2 ≡ failure1) → OnOk (result_and first second) (failure2 ≡ failure)
+then_no_failure : (first second : Result (Unit {0}) StreamFault) (failure failure1 failure2 : List Failure) → OnOk first (failure1 ≡ failure) → OnOk second (failure2 ≡ failure1) → OnOk (result_and first second) (failure2 ≡ failure)
 then_no_failure (Ok u) (Ok v) failure failure1 failure2 p q = q ∙ p
 then_no_failure (Ok u) (Err e) failure failure1 failure2 p q = tt
 then_no_failure (Err e) second failure failure1 failure2 p q = tt
@@ -170,14 +171,10 @@ then_no_failure (Err e) second failure failure1 failure2 p q = tt
 false_true : {P : Type 0} → false ≡ true → P
 false_true e = cc
 
-still_set : (failure1 failure2 : Option ℕ) → is_some failure1 ≡ true → ((n : ℕ) → failure1 ≡ Some n → failure2 ≡ Some n) → is_some failure2 ≡ true
-still_set None failure2 some kept = false_true some
-still_set (Some n) failure2 some kept = ap is_some (kept n refl)
-
-then_failure : (first second : Result (Unit {0}) StreamFault) (failure1 failure2 : Option ℕ) → OnErr first (is_some failure1 ≡ true) → OnErr second (is_some failure2 ≡ true) → ((n : ℕ) → failure1 ≡ Some n → failure2 ≡ Some n) → OnErr (result_and first second) (is_some failure2 ≡ true)
-then_failure (Ok u) (Ok v) failure1 failure2 p q kept = tt
-then_failure (Ok u) (Err e) failure1 failure2 p q kept = q
-then_failure (Err e) second failure1 failure2 p q kept = still_set failure1 failure2 p kept
+then_failure : (first second : Result (Unit {0}) StreamFault) (failures1 failures2 : List Failure) → OnErr first (is_any failures1 ≡ true) → OnErr second (is_any failures2 ≡ true) → (is_any failures1 ≡ true → is_any failures2 ≡ true) → OnErr (result_and first second) (is_any failures2 ≡ true)
+then_failure (Ok u) (Ok v) failures1 failures2 p q still = tt
+then_failure (Ok u) (Err e) failures1 failures2 p q still = q
+then_failure (Err e) second failures1 failures2 p q still = still p
 
 pub brings-then : {before mid after : WorldState} {hs hs1 hs2 : List (ℕ × List ℕ)} (first second : Result (Unit {0}) StreamFault) → ((j : ℕ) → is_output_among j hs1 ≡ is_output_among j hs) → BringsHeld before hs first mid hs1 → BringsHeld mid hs1 second after hs2 →
     BringsHeld before hs (result_and first second) after hs2
@@ -185,8 +182,8 @@ brings-then {before = before} {mid = mid} {after = after} {hs = hs} {hs1 = hs1} 
   touches = touches-then p.touches (touches_as (λ j other. same j ∙ other) q.touches);
   printed = then_ok (with_held hs (openings before.log)) (with_held hs1 (openings mid.log)) (with_held hs2 (openings after.log)) first second p.printed q.printed;
   begins = begins-then (in_order (with_held hs2 (openings after.log))) (in_order (with_held hs1 (openings mid.log))) (in_order (with_held hs (openings before.log))) q.begins p.begins;
-  no_failure = then_no_failure first second before.first_failure mid.first_failure after.first_failure p.no_failure q.no_failure;
-  failure = then_failure first second mid.first_failure after.first_failure p.failure q.failure q.touches.grows.kept;
+  no_failure = then_no_failure first second before.failures mid.failures after.failures p.no_failure q.no_failure;
+  failure = then_failure first second mid.failures after.failures p.failure q.failure (still_any q.touches.grows);
 }
 
 -- a flush leaves one output fewer that isn't flushed

@@ -7,9 +7,11 @@ use Rattle.awk_streams.specs.declared.fault.StreamFault.{StreamFault}
 use Rattle.awk_world.specs.definitions.Log.{Event, Wrote}
 use Rattle.awk_world.specs.definitions.WorldState.{WorldState}
 use Rattle.awk_world.specs.definitions.Writes.{GoesOn, Writes, with_events}
-use Rattle.awk_streams.specs.definitions.Outputs.{WritesAll, Flushes, WritesAndFlushes}
+use Rattle.awk_streams.specs.definitions.Outputs.{WritesAll, Flushes, WritesAndFlushes, FailsAtOutput}
 use Rattle.awk_streams.specs.support.Buffered.{PrintsOrHolds}
-use Rattle.awk_streams.proofs.GrowsLemmas.{Grows-self, Grows-then, fails_later, with_events-append}
+use Rattle.awk_streams.proofs.GrowsLemmas.{Grows-self, Grows-then, with_events-append}
+use Rattle.awk_streams.proofs.WritingLemmas.{fails_at_later}
+use Rattle.std.proofs.lemmas.Result.{IfErr-weaker}
 
 on_ok : {P Q : Type 0} (r : Result (Unit {0}) StreamFault) → (P → Q) → OnOk r P → OnOk r Q
 on_ok (Ok u) f p = f p
@@ -57,9 +59,9 @@ writes_then id xs ys before mid after u r first then =
       within = omega (arith, then.within, long);
       writes = subst (λ b. GoesOn (Writes id b) before.log after.log) parts (GoesOn-append id (take first.count xs) (take then.count ys) before.log mid.log after.log first.writes then.writes);
       all = on_ok r (λ (e : then.count ≡ length ys). ap (λ n. length xs + n) e ∙ sym long) then.all;
-      no_failure = on_ok r (λ (e : after.first_failure ≡ mid.first_failure). e ∙ first.no_failure) then.no_failure;
+      no_failure = on_ok r (λ (e : after.failures ≡ mid.failures). e ∙ first.no_failure) then.no_failure;
       failure = then.failure;
-      fails = on_err r (λ f. fails_later before mid after first.no_failure f) then.fails;
+      fails = IfErr-weaker r (λ e. FailsAtOutput id e mid after) (λ e. FailsAtOutput id e before after) (λ e f. fails_at_later id e before mid after first.no_failure f) then.fails;
       grows = Grows-then first.grows then.grows;
     }
 
@@ -124,9 +126,9 @@ flushes_written id held before mid after u r writes flush = record {
   written = mid.log;
   writes = writes.writes;
   adds = flush.adds;
-  all = on_ok r (λ (e : after.first_failure ≡ mid.first_failure). writes.all) flush.no_failure;
-  no_failure = on_ok r (λ (e : after.first_failure ≡ mid.first_failure). e ∙ writes.no_failure) flush.no_failure;
+  all = on_ok r (λ (e : after.failures ≡ mid.failures). writes.all) flush.no_failure;
+  no_failure = on_ok r (λ (e : after.failures ≡ mid.failures). e ∙ writes.no_failure) flush.no_failure;
   failure = flush.failure;
-  fails = on_err r (λ f. fails_later before mid after writes.no_failure f) flush.fails;
+  fails = IfErr-weaker r (λ e. FailsAtOutput id e mid after) (λ e. FailsAtOutput id e before after) (λ e f. fails_at_later id e before mid after writes.no_failure f) flush.fails;
   grows = Grows-then writes.grows flush.grows;
 }

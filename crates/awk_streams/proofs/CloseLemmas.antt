@@ -254,7 +254,7 @@ answered true a log told answer command file consistent = consistent refl ∙ sy
 answered false a log told answer command file consistent = sym (file refl)
 
 close_told : (before after : WorldState) (s : StreamsView) (front back : List NamedStream) (x : NamedStream) (told answer : ℤ) → s.named ≡ front ++ x ∷ back → AreOpen before s → AreSound before s → HoldsNothing s → (words.is_command (name_of x) ≡ true → answer ≡ told) → (words.is_command (name_of x) ≡ false → answer ≡ pos 0) →
-    after.log ≡ Closed (number_of x) told ∷ before.log → after.first_failure ≡ before.first_failure → ClosesStream (name_of x) before s answer after record s { named = front ++ back }
+    after.log ≡ Closed (number_of x) told ∷ before.log → after.failures ≡ before.failures → ClosesStream (name_of x) before s answer after record s { named = front ++ back }
 close_told before after s front back x told answer is open' h empty command file logs same_failure =
     let id : ℕ = number_of x in
     let log : List Event = Closed id told ∷ before.log in
@@ -306,7 +306,7 @@ closed_sound before after s place x n at open' h closes logs =
     subst (λ (l : List NamedStream). AreSound after record s { named = l }) (sym (removed s.named place x p)) (close_sound before after s p.front p.back x n p.is open' h closes logs)
 
 pub closed_told : (before after : WorldState) (s : StreamsView) (place : ℕ) (x : NamedStream) (told answer : ℤ) → slice_get s.named place ≡ Some x → AreOpen before s → AreSound before s → HoldsNothing s → (words.is_command (name_of x) ≡ true → answer ≡ told) → (words.is_command (name_of x) ≡ false → answer ≡ pos 0) →
-    after.log ≡ Closed (number_of x) told ∷ before.log → after.first_failure ≡ before.first_failure → ClosesAt place before s answer after (without_place place s)
+    after.log ≡ Closed (number_of x) told ∷ before.log → after.failures ≡ before.failures → ClosesAt place before s answer after (without_place place s)
 closed_told before after s place x told answer at open' h empty command file logs same_failure =
     let p = split_at s.named place x at in
     record {

@@ -120,8 +120,8 @@ pub each_grows : (xs : List Named) (first answer : ℤ) (before after : WorldSta
 each_grows [] first answer before after old new (is, world, view) = subst (λ (w : WorldState). Grows before w) (sym world) (Grows-self before)
 each_grows (x ∷ xs) first answer before after old new (told, world, view, this, later) = Grows-then this.grows (each_grows xs told answer world after view new later)
 
-pub each_no_failure : (xs : List Named) (first answer : ℤ) (before after : WorldState) (old new : StreamsView) → ClosesEach xs first before old answer after new → after.first_failure ≡ before.first_failure
-each_no_failure [] first answer before after old new (is, world, view) = ap (λ (w : WorldState). w.first_failure) world
+pub each_no_failure : (xs : List Named) (first answer : ℤ) (before after : WorldState) (old new : StreamsView) → ClosesEach xs first before old answer after new → after.failures ≡ before.failures
+each_no_failure [] first answer before after old new (is, world, view) = ap (λ (w : WorldState). w.failures) world
 each_no_failure (x ∷ xs) first answer before after old new (told, world, view, this, later) = each_no_failure xs told answer world after view new later ∙ this.no_failure
 
 -- the closing of a text

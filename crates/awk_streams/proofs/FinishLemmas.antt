@@ -1,23 +1,28 @@
 -- What the end of a run tells.
-use Rattle.std.proofs.Common.{◌≡◌, ℕ, ℤ, pos, Bool, true, false, List, [], ◌∷◌, ◌++◌, Option, Some, None, Result, Ok, Err, refl, sym, ◌∙◌, ap, subst}
-use Rattle.std.specs.Prelude.{is_some, not, OnOk, OnErr}
+use Rattle.std.proofs.Common.{◌≡◌, ℕ, ℤ, pos, Bool, true, false, List, [], ◌∷◌, ◌++◌, length, Option, Some, None, Result, Ok, Err, refl, sym, ◌∙◌, ap, subst}
+use Rattle.std.specs.Prelude.{is_some, not, OnOk, OnErr, IfErr}
 use Rattle.awk_world.specs.definitions.Log.{Event, Wrote, Flushed, Closed}
 use Rattle.awk_world.specs.definitions.Oracle.{standing}
-use Rattle.awk_world.specs.definitions.WorldState.{WorldState}
+use Rattle.awk_world.specs.definitions.WorldState.{WorldState, is_any, first_of}
 use Rattle.awk_world.specs.definitions.Writes.{with_events, GoesOn}
+use Rattle.awk_world.specs.definitions.Grows.{Grows}
 use Rattle.awk_world.specs.definitions.Openings.{Opening, openings, in_order, outputs_of, AreFlushed, AreBrought, Begins}
 use Rattle.awk_streams.specs.declared.fault.StreamFault.{StreamFault}
 use Rattle.awk_streams.specs.declared.input.Input.{Input}
 use Rattle.awk_streams.specs.definitions.Named.{Named}
 use Rattle.awk_streams.specs.definitions.Streams.{StreamsView, held_of, with_held, printed_openings, AreBringing, all_unheld}
 use Rattle.awk_streams.specs.definitions.MainInput.{EndsMain, closed_main}
-use Rattle.awk_streams.specs.definitions.Commands.{ClosesEach, BringsAll, all_names, AreOfTheEnd, EndsAll, BringsAndCloses, Finishes}
+use Rattle.awk_streams.specs.definitions.Commands.{ClosesEach, BringsAll, all_names, AreOfTheEnd, EndsAll, BringsAndCloses, Finishes, BringsEach}
 use Rattle.awk_streams.specs.support.Held.{HoldsNothing}
 use Rattle.awk_streams.specs.support.Brings.{BringsHeld, AreFlushedBut}
-use Rattle.awk_streams.proofs.GrowsLemmas.{Grows-then, with_events-append}
+use Rattle.awk_streams.proofs.GrowsLemmas.{Grows-self, Grows-then, with_events-append, first_between, first_stays}
 use Rattle.awk_streams.proofs.ViewLemmas.{brings_all, nothing_held}
 use Rattle.awk_streams.proofs.CloseLemmas.{flushed_after}
 use Rattle.awk_streams.proofs.ClosesLemmas.{each_grows, each_no_failure, but_held_all_names}
+use Rattle.awk_world.specs.declared.failure.Failure.{Failure}
+use Rattle.awk_streams.specs.definitions.Outputs.{output_fault_of, WritesAndFlushes}
+use Rattle.std.specs.Result.{result_and}
+use Rattle.std.proofs.lemmas.Option.{same_Some}
 
 -- the log of the end
 
@@ -114,20 +119,49 @@ finishes_ends : (before mid later after : WorldState) (old s v new : StreamsView
 finishes_ends before mid later after old s v new (Ok u) answer b main same empty flushed is ends closes = finishes_ok before mid later after old s v new u answer b main same empty flushed is ends closes
 finishes_ends before mid later after old s v new (Err e) answer b main same empty flushed is ends closes = (tt, tt)
 
-ok_same : (result : Result (Unit {0}) StreamFault) (x y z : Option ℕ) → OnOk result (y ≡ x) → z ≡ y → OnOk result (z ≡ x)
+ok_same : (result : Result (Unit {0}) StreamFault) (x y z : List Failure) → OnOk result (y ≡ x) → z ≡ y → OnOk result (z ≡ x)
 ok_same (Ok u) x y z p q = q ∙ p
 ok_same (Err e) x y z p q = tt
 
-err_same : (result : Result (Unit {0}) StreamFault) (y z : Option ℕ) → OnErr result (is_some y ≡ true) → z ≡ y → OnErr result (is_some z ≡ true)
+err_same : (result : Result (Unit {0}) StreamFault) (y z : List Failure) → OnErr result (is_any y ≡ true) → z ≡ y → OnErr result (is_any z ≡ true)
 err_same (Ok u) y z p q = tt
-err_same (Err e) y z p q = ap is_some q ∙ p
+err_same (Err e) y z p q = ap is_any q ∙ p
+
+-- each output is brought, and the first failure is the one that the result tells
+
+each_goes_on : (hs : List (ℕ × List ℕ)) (result : Result (Unit {0}) StreamFault) (before after : WorldState) → BringsEach hs before result after → Grows before after
+each_goes_on [] result before after (is, same) = subst (λ (w : WorldState). Grows before w) (sym same) (Grows-self before)
+each_goes_on (h ∷ hs) result before after (first, rest, world, is, here, later) = Grows-then here.grows (each_goes_on hs rest world after later)
+
+abbrev Blames : Result (Unit {0}) StreamFault → Failure → Type 0
+Blames result f = IfErr result (λ fault. fault ≡ output_fault_of f.what)
+
+-- behind a first failure it stays the first
+blamed_behind : (e : StreamFault) (g : Failure) (world after : WorldState) → e ≡ output_fault_of g.what → world.failures ≡ g ∷ [] → Grows world after → (f : Failure) → first_of after.failures ≡ Some f → e ≡ output_fault_of f.what
+blamed_behind e g world after is one grows f some =
+    let first : Some g ≡ Some f = sym (ap first_of (grows.failures ∙ ap (λ (fs : List Failure). grows.newer ++ fs) one) ∙ first_stays g grows.newer) ∙ some in
+    is ∙ ap (λ (x : Failure). output_fault_of x.what) (same_Some g f first)
+
+-- of the first output, where those behind it are told
+first_blames : (id : ℕ) (held : List ℕ) (first rest : Result (Unit {0}) StreamFault) (before world after : WorldState) → WritesAndFlushes id held before first world → Grows world after → before.failures ≡ [] → (f : Failure) → first_of after.failures ≡ Some f
+    → (world.failures ≡ [] → Blames rest f) → Blames (result_and first rest) f
+first_blames id held (Ok u) rest before world after here grows none f some later = later (here.no_failure ∙ none)
+first_blames id held (Err e) rest before world after here grows none f some later =
+    let fails = here.fails in
+    let g : Failure = record { at = length world.log; output = Some id; what = fails.0 } in
+    blamed_behind e g world after fails.1 (fails.2 ∙ ap (λ (fs : List Failure). g ∷ fs) none) grows f some
+
+each_blames : (hs : List (ℕ × List ℕ)) (result : Result (Unit {0}) StreamFault) (before after : WorldState) → BringsEach hs before result after → before.failures ≡ [] → (f : Failure) → first_of after.failures ≡ Some f → Blames result f
+each_blames [] result before after (is, same) none f some = subst (λ r. Blames r f) (sym is) tt
+each_blames (h ∷ hs) result before after (first, rest, world, is, here, later) none f some =
+    subst (λ r. Blames r f) (sym is) (first_blames h.0 h.1 first rest before world after here (each_goes_on hs rest world after later) none f some (λ clear. each_blames hs rest world after later clear f some))
 
 pub finishes : (before mid later after : WorldState) (old s v new : StreamsView) (result : Result (Unit {0}) StreamFault) (answer : ℤ) → BringsAndCloses before old result after → BringsHeld before (held_of old) result mid (held_of s) → s.main ≡ old.main → all_unheld s.named ≡ all_unheld old.named → HoldsNothing s → OnOk result (AreFlushedBut [] mid.log) →
     v ≡ record s { main = None } → EndsMain mid s later v → ClosesEach (all_names v.named) (pos 0) later v answer after new → ((id : ℕ) → standing id after.log ≡ None) → Finishes before old result after new
 finishes before mid later after old s v new result answer each b main same empty flushed is ends closes none =
     let both = finishes_ends before mid later after old s v new result answer b main same empty flushed is ends closes in
-    let later_failure : later.first_failure ≡ mid.first_failure = ends.no_failure in
-    let last_failure : after.first_failure ≡ mid.first_failure = each_no_failure (all_names v.named) (pos 0) answer later after v new closes ∙ later_failure in
+    let later_failure : later.failures ≡ mid.failures = ends.no_failure in
+    let last_failure : after.failures ≡ mid.failures = each_no_failure (all_names v.named) (pos 0) answer later after v new closes ∙ later_failure in
     let received : outputs_of after.log ≡ in_order (with_held (held_of s) (openings mid.log)) =
     ap in_order (each_openings (all_names v.named) (pos 0) answer later after v new closes ∙ (ap openings ends.adds.1 ∙ (main_openings s.main ends.adds.0 mid.log ∙ sym (nothing_held s (openings mid.log) empty)))) in
     let closed : GoesOn AreOfTheEnd mid.log after.log = ends-then (main_only s.main ends.adds.0 mid.log later.log ends.adds.1) (each_only (all_names v.named) (pos 0) answer later after v new closes) in
@@ -138,15 +172,16 @@ finishes before mid later after old s v new result answer each b main same empty
         log = mid.log;
         brings = b.touches.only;
         closes = closed;
-        failure = λ n none some. (b.touches.grows.met none n (sym last_failure ∙ some)).1;
+        failure = λ f none some. (first_between f b.touches.grows none (sym (ap first_of last_failure) ∙ some)).1;
       };
       each = each;
       closed = none;
       ends = both.0;
       brought = both.1;
       begins = subst (λ l. Begins l (printed_openings before old)) (sym received) b.begins;
-      no_failure = ok_same result before.first_failure mid.first_failure after.first_failure b.no_failure last_failure;
-      failure = err_same result mid.first_failure after.first_failure b.failure last_failure;
+      no_failure = ok_same result before.failures mid.failures after.failures b.no_failure last_failure;
+      failure = err_same result mid.failures after.failures b.failure last_failure;
+      blames = λ f none some. each_blames (held_of old) result before each.world each.brings none f (sym (ap first_of each.no_failure) ∙ some);
     }
 
 -- by the test of the code

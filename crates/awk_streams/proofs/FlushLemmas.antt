@@ -17,12 +17,13 @@ use Rattle.awk_streams.specs.declared.named.NamedStream.{NamedStream}
 use Rattle.awk_streams.specs.declared.named.NamedStream.TheVariants as named
 use Rattle.awk_streams.specs.definitions.Streams.{StreamsView, AreOpen, AreSound, number_of, held_of, is_output_among, AreBringing, unheld, all_unheld}
 use Rattle.awk_streams.specs.definitions.Flushes.{is_standard_output, is_standard_error, is_output_called, is_number_among, is_standard_number, AreBringingTo}
-use Rattle.awk_streams.specs.definitions.Outputs.{WritesAndFlushes}
+use Rattle.awk_streams.specs.definitions.Outputs.{WritesAndFlushes, FailsWith, FailsAtOutput}
 use Rattle.awk_streams.specs.support.Kept.{AreOfOutput}
 use Rattle.awk_streams.specs.support.Held.{ChangesHeld, held_by}
 use Rattle.awk_streams.specs.support.Brings.{FlushesNamed, BringsHeld}
 use Rattle.awk_streams.specs.support.Flushing.{BringsSome, BringsSomeTo, is_number_at, emptied_to, emptied_at}
-use Rattle.awk_streams.proofs.GrowsLemmas.{with_events-append, fails_later}
+use Rattle.awk_streams.proofs.GrowsLemmas.{with_events-append}
+use Rattle.awk_streams.proofs.WritingLemmas.{fails_with, fails_with_later}
 use Rattle.awk_streams.proofs.BufferedLemmas.{on_err}
 use Rattle.awk_streams.proofs.LeavesLemmas.{of_output_flushed, flushed_here}
 use Rattle.awk_streams.proofs.BringLemmas.{on_ok, brings-self, brings-then, flush_brings, flush_events, flush_log, flush_of}
@@ -31,6 +32,7 @@ use Rattle.awk_streams.proofs.NamedLemmas.{among_at, sound_at, unheld_set}
 use Rattle.awk_streams.proofs.ViewLemmas.{keeps_open, keeps_sound, same_among, step_output, step_error}
 use Rattle.awk_streams.proofs.PrintLemmas.{change_at, two_true}
 use Rattle.awk_streams.proofs.EmptiedLemmas.{unheld_emptied_to, emptied_next, emptied_to_get, among_next}
+use Rattle.std.proofs.lemmas.Result.{IfErr-weaker}
 
 -- events that bring bytes to some outputs
 
@@ -127,7 +129,7 @@ some_one among id held before after old new result is only b w = record {
   only = record { events = flush_events w; log = flush_log w; each = of_output_to among id (flush_events w) is (flush_of w) };
   flushed = one_flushed among id held before after result only w;
   stays = one_stays id held before after result w;
-  fails = w.fails;
+  fails = IfErr-weaker result (λ e. FailsAtOutput id e before after) (λ e. FailsWith e before after) (λ e f. fails_with id e before after f) w.fails;
 }
 
 -- one stretch after another
@@ -144,7 +146,7 @@ some_then p q before mid after old s new u result same f g = record {
   only = only_then (λ id. p id || q id) (only_more p (λ id. p id || q id) (λ id is. or_left (p id) (q id) is) f.only) (only_more q (λ id. p id || q id) (λ id is. or_right (p id) (q id) is) g.only);
   flushed = then_flushed p q mid.log after.log result f.flushed g.flushed g.stays;
   stays = on_ok result (λ (h : (id : ℕ) → is_flushed id mid.log ≡ true → is_flushed id after.log ≡ true) (id : ℕ) (is : is_flushed id before.log ≡ true). h id (f.stays id is)) g.stays;
-  fails = on_err result (λ (h : FailsNow mid after). fails_later before mid after f.brings.no_failure h) g.fails;
+  fails = IfErr-weaker result (λ e. FailsWith e mid after) (λ e. FailsWith e before after) (λ e h. fails_with_later e before mid after f.brings.no_failure h) g.fails;
 }
 
 -- of the same numbers

@@ -14,7 +14,7 @@ use Rattle.awk_world.specs.definitions.Openings.{Opening, openings, in_order, re
 use Rattle.awk_streams.specs.declared.fault.StreamFault.{StreamFault}
 use Rattle.awk_streams.specs.declared.named.NamedStream.{NamedStream}
 use Rattle.awk_streams.specs.declared.named.NamedStream.TheVariants as named
-use Rattle.awk_streams.specs.definitions.Outputs.{IsOutputFault}
+use Rattle.awk_streams.specs.definitions.Outputs.{IsOutputFault, FailsWith}
 use Rattle.awk_streams.specs.definitions.Named as words
 use Rattle.awk_streams.specs.definitions.Streams.{StreamsView, number_of, AreOthers, AreApart, AreOpen, held_in, held_of, with_held, place_of, StandFor, FailsBy, all_unheld}
 use Rattle.awk_streams.specs.definitions.Flushes.{FlushesAll, is_standard_output, is_standard_error, is_output_called, has_output_called, is_number_among, is_standard_number, is_number_of, held_unless, all_emptied, without_held, AreBringingTo, FlushesText}
@@ -38,7 +38,7 @@ false_true e = cc
 -- ---- all outputs
 
 pub all_flushed : (before after : WorldState) (old new : StreamsView) (result : Result (Unit {0}) StreamFault) → new.main ≡ old.main → all_unheld new.named ≡ all_unheld old.named → BringsHeld before (held_of old) result after (held_of new) → OnOk result (HoldsNothing new) → OnOk result (AreFlushedBut [] after.log) →
-    OnErr result (FailsNow before after) → IfErr result IsOutputFault → FlushesAll before old result after new
+    IfErr result (λ fault. FailsWith fault before after) → IfErr result IsOutputFault → FlushesAll before old result after new
 all_flushed before after old new (Ok u) main same b empty flushed fails fault = record {
   grows = b.touches.grows;
   flushed = brings_all before after old new u main same b empty flushed;
@@ -48,13 +48,13 @@ all_flushed before after old new (Err e) main same b empty flushed fails (inl me
     subst (λ (f : StreamFault). FlushesAll before old (Err f) after new) (sym memory) record {
       grows = b.touches.grows;
       flushed = loses_bytes before after old new (Err e) b;
-      failure = λ none. inr (fails none);
+      failure = subst (λ (f : StreamFault). FailsBy f before after) memory (fails_as before after e (inl memory) fails);
     }
 all_flushed before after old new (Err e) main same b empty flushed fails (inr failed) =
     subst (λ (f : StreamFault). FlushesAll before old (Err f) after new) (sym failed) record {
       grows = b.touches.grows;
       flushed = loses_bytes before after old new (Err e) b;
-      failure = fails;
+      failure = subst (λ (f : StreamFault). FailsBy f before after) failed (fails_as before after e (inr failed) fails);
     }
 
 pub all_is : (old new : StreamsView) (result : Result (Unit {0}) StreamFault) → new.main ≡ old.main → all_unheld new.named ≡ all_unheld old.named → OnOk result (HoldsNothing new) →

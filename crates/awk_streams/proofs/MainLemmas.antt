@@ -10,7 +10,8 @@ use Rattle.awk_record.specs.declared.buffer_fault.BufferFault.{BufferFault}
 use Rattle.awk_record.specs.declared.buffer_fault.BufferFault.TheVariants.{Memory as BufferMemory}
 use Rattle.awk_world.specs.declared.world.InputKind.{InputKind}
 use Rattle.awk_world.specs.declared.world.InputKind.TheVariants.{Standard, File, Command}
-use Rattle.awk_world.specs.definitions.Log.{Event, OpenedInput, Closed}
+use Rattle.awk_world.specs.definitions.Log.{Event, DidNot, OpenedInput, Closed}
+use Rattle.awk_world.specs.declared.world.WorldFault.TheVariants.{Memory as WorldMemory}
 use Rattle.awk_world.specs.definitions.Oracle.{Oracle, Source, IsConsistent, SameCounts, AnInput, one_if, how_many, opens_input, closes_command, is_command, standing, new_reading}
 use Rattle.awk_world.specs.definitions.Orderly.{IsInOrder}
 use Rattle.awk_world.specs.definitions.WorldState.{WorldState, Logs, SameOpen, IsFresh, Opens, Closes, MayFailNow}
@@ -91,7 +92,7 @@ new_rest a kind name id log p s is answer = (
 )
 
 main_opened_told : (before after : WorldState) (s : StreamsView) (kind : InputKind) (name : List ℕ) (id : ℕ) (p : Pending) (u : Unit {0}) → p ≡ record { bytes = []; ending = None } → AreOpen before s → IsFresh before id → Opens before after id →
-    after.log ≡ OpenedInput kind name (Some id) ∷ before.log → after.first_failure ≡ before.first_failure → OpensMain kind name before s (Ok u) after record s { main = Some record { id = id; pending = p } }
+    after.log ≡ OpenedInput kind name (Some id) ∷ before.log → after.failures ≡ before.failures → OpensMain kind name before s (Ok u) after record s { main = Some record { id = id; pending = p } }
 main_opened_told before after s kind name id p u empty open' fresh opens is same_failure =
     let event : Event = OpenedInput kind name (Some id) in
     let log : List Event = event ∷ before.log in
@@ -120,14 +121,14 @@ open_main_sound before after old s kind name id p is none plain empty open' h fr
     main_opened_sound before after s kind name id p (ap (λ (v : StreamsView). v.main) is ∙ none) plain empty (subst (λ (v : StreamsView). AreOpen before v) (sym is) open') (subst (λ (v : StreamsView). AreSound before v) (sym is) h) fresh opens log
 
 pub open_main_told : (before after : WorldState) (old s : StreamsView) (kind : InputKind) (name : List ℕ) (id : ℕ) (p : Pending) (u : Unit {0}) → s ≡ old → p ≡ record { bytes = []; ending = None } → AreOpen before old → IsFresh before id → Opens before after id →
-    after.log ≡ OpenedInput kind name (Some id) ∷ before.log → after.first_failure ≡ before.first_failure → OpensMain kind name before old (Ok u) after record s { main = Some record { id = id; pending = p } }
+    after.log ≡ OpenedInput kind name (Some id) ∷ before.log → after.failures ≡ before.failures → OpensMain kind name before old (Ok u) after record s { main = Some record { id = id; pending = p } }
 open_main_told before after old s kind name id p u is empty open' fresh opens log same_failure =
     subst (λ (v : StreamsView). OpensMain kind name before v (Ok u) after record s { main = Some record { id = id; pending = p } }) is
     (main_opened_told before after s kind name id p u empty (subst (λ (v : StreamsView). AreOpen before v) (sym is) open') fresh opens log same_failure)
 
 -- a refused opening, and one for which there is no memory
 
-pub open_main_refused : (kind : InputKind) (name : List ℕ) (before after : WorldState) (s : StreamsView) → after.log ≡ OpenedInput kind name None ∷ before.log → after.first_failure ≡ before.first_failure → OpensMain kind name before s (Err InputNotReadable) after s
+pub open_main_refused : (kind : InputKind) (name : List ℕ) (before after : WorldState) (s : StreamsView) → after.log ≡ OpenedInput kind name None ∷ before.log → after.failures ≡ before.failures → OpensMain kind name before s (Err InputNotReadable) after s
 open_main_refused kind name before after s is same_failure =
     let event : Event = OpenedInput kind name None in
     let leaves = refuses_input kind name before.log in
@@ -143,9 +144,9 @@ open_main_refused kind name before after s is same_failure =
       failure = same_failure;
     }
 
-pub open_main_unasked : (kind : InputKind) (name : List ℕ) (before after : WorldState) (s : StreamsView) → Logs None before after → OpensMain kind name before s (Err Memory) after s
+pub open_main_unasked : (kind : InputKind) (name : List ℕ) (before after : WorldState) (s : StreamsView) → Logs (DidNot None WorldMemory) before after → OpensMain kind name before s (Err Memory) after s
 open_main_unasked kind name before after s (is, fails) = record {
-  grows = logs_grow None before after (is, fails);
+  grows = logs_grow (DidNot None WorldMemory) before after (is, fails);
   adds = is;
   same = refl;
   printed = ap (λ (l : List Event). in_order (with_held (held_of s) (openings l))) is;
@@ -153,7 +154,7 @@ open_main_unasked kind name before after s (is, fails) = record {
   granted = tt;
   refused = λ e. let bad : Err Memory ≡ Err InputNotReadable = e in absurd cc;
   named = λ a zs h. subst (λ (l : List Event). StandFor a l s.named zs) (sym is) h;
-  failure = λ none. inr (fails_now before after (is, fails) none);
+  failure = inr (fails_now None WorldMemory before after (is, fails));
 }
 
 -- the next record
@@ -194,7 +195,7 @@ asked_main_sound separator before after s old new step is open' h same takes =
     }
 
 pub step_failure : {T : Type 0} (before after : WorldState) (step : Result Step BufferFault) (result : Result T StreamFault) → (result ≢ Err Memory → step ≢ Err BufferMemory) → (result ≡ Err Memory → step ≡ Err BufferMemory) → result ≢ Err WriteFailed →
-    (step ≢ Err BufferMemory → after.first_failure ≡ before.first_failure) → (step ≡ Err BufferMemory → MayFailNow before after) → FailsAs result before after
+    (step ≢ Err BufferMemory → after.failures ≡ before.failures) → (step ≡ Err BufferMemory → MayFailNow before after) → FailsAs result before after
 step_failure before after step (Ok x) differs is ok same fails = same (differs (λ (e : Ok x ≡ Err Memory). cc))
 step_failure before after step (Err Memory) differs is ok same fails = fails (is refl)
 step_failure before after step (Err WriteFailed) differs is ok same fails = absurd (ok refl)
@@ -344,7 +345,7 @@ close_main_sound before after old s n is open' h closes log =
       owned = λ j no_main no_named. closed_main_none old.main j n before.log (λ other. h.owned j other no_named);
     })
 
-pub close_main_told : (before after : WorldState) (old s : StreamsView) (n : ℤ) → s ≡ old → AreOpen before old → AreSound before old → after.log ≡ closed_main old.main n before.log → after.first_failure ≡ before.first_failure → EndsMain before old after record s { main = None }
+pub close_main_told : (before after : WorldState) (old s : StreamsView) (n : ℤ) → s ≡ old → AreOpen before old → AreSound before old → after.log ≡ closed_main old.main n before.log → after.failures ≡ before.failures → EndsMain before old after record s { main = None }
 close_main_told before after old s n is open' h log same_failure =
     let closed : List Event = closed_main old.main n before.log in
     subst (λ (v : StreamsView). EndsMain before old after record v { main = None }) (sym is) (subst (λ (l : List Event). EndsMain before old record after { log = l } record old { main = None }) (sym log) record {

@@ -18,8 +18,9 @@ use Rattle.awk_streams.specs.definitions.Streams.{number_of, AreOpenNamed, AreOt
 use Rattle.awk_streams.specs.support.Held.{AreOtherOutputs, ChangesHeld, AreEmpty, held_by}
 use Rattle.awk_streams.specs.support.Brings.{FlushesNamed, BringsHeld, AreFlushedBut}
 use Rattle.awk_streams.proofs.StreamsLemmas.{but_held_among, but_held_numbered, but_held_sound, apart_by, sound_same, same_for_all}
-use Rattle.awk_streams.proofs.GrowsLemmas.{fails_later}
+use Rattle.awk_streams.proofs.WritingLemmas.{fails_with, fails_with_later}
 use Rattle.awk_streams.proofs.BringLemmas.{brings-self, brings-then, flush_brings, flush_flushed}
+use Rattle.awk_streams.specs.definitions.Outputs.{FailsWith}
 
 no_element : {T : Type 0} {P : Type 0} (x : T) → None ≡ Some x → P
 no_element x e = cc
@@ -158,12 +159,12 @@ err_ok : (r : Result (Unit {0}) StreamFault) (e : StreamFault) → r ≡ Err e �
 err_ok r e is ok = cc
 
 -- a flush that fails
-pub flush_fails : (before mid after : WorldState) (x : NamedStream) (e : StreamFault) → mid.first_failure ≡ before.first_failure → FlushesNamed x mid (Err e) after → FailsNow before after
+pub flush_fails : (before mid after : WorldState) (x : NamedStream) (e : StreamFault) → mid.failures ≡ before.failures → FlushesNamed x mid (Err e) after → FailsWith e before after
 flush_fails before mid after (named.Input k n input) e same flushes = absurd (err_ok (Err e) e refl flushes.0)
-flush_fails before mid after (named.Output k n output) e same flushes = fails_later before mid after same flushes.fails
+flush_fails before mid after (named.Output k n output) e same flushes = fails_with_later e before mid after same (fails_with output.id e mid after flushes.fails)
 
-pub flush_no_failure : (before after : WorldState) (x : NamedStream) (u : Unit {0}) → FlushesNamed x before (Ok u) after → after.first_failure ≡ before.first_failure
-flush_no_failure before after (named.Input k n input) u flushes = ap (λ (w : WorldState). w.first_failure) flushes.1
+pub flush_no_failure : (before after : WorldState) (x : NamedStream) (u : Unit {0}) → FlushesNamed x before (Ok u) after → after.failures ≡ before.failures
+flush_no_failure before after (named.Input k n input) u flushes = ap (λ (w : WorldState). w.failures) flushes.1
 flush_no_failure before after (named.Output k n output) u flushes = flushes.no_failure
 
 -- of two results the first failure

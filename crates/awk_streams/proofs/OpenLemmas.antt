@@ -1,15 +1,18 @@
 -- Streams that are opened, and openings that are refused.
 use Rattle.std.proofs.Common.{◌≡◌, ◌≢◌, ◌≤◌, ◌<◌, inl, inr, ℕ, Bool, true, false, List, [], ◌∷◌, ◌++◌, length, Option, Some, None, refl, sym, ◌∙◌, ap, subst, arith}
-use Rattle.std.specs.Prelude.{is_some, ◌||◌, ◌==◌}
+use Rattle.std.specs.Prelude.{is_some, ◌||◌, ◌==◌, ◌+◌, get_or, slice_get}
+use Rattle.std.proofs.lemmas.Option.{slice_get-get_or}
+use Rattle.std.proofs.Math.Seq.{get_or-append_seam}
 use Rattle.std.proofs.lemmas.Bool.{cond-true, cond-false, ne_eqb, eq-eqb, cases_eq}
 use Rattle.std.proofs.lemmas.List.{length-append}
 use Rattle.awk_world.specs.declared.world.InputKind.{InputKind}
 use Rattle.awk_world.specs.declared.world.OutputKind.{OutputKind}
 use Rattle.awk_world.specs.declared.world.Mode.{Mode}
-use Rattle.awk_world.specs.definitions.Log.{Event, OpenedInput, OpenedOutput}
+use Rattle.awk_world.specs.definitions.Log.{Event, DidNot, OpenedInput, OpenedOutput}
+use Rattle.awk_world.specs.declared.world.WorldFault.TheVariants.{Memory as WorldMemory}
 use Rattle.awk_world.specs.definitions.Oracle.{Standing, standing, new_reading}
 use Rattle.awk_world.specs.definitions.Orderly.{IsFree, IsOrderlyAt, IsInOrder}
-use Rattle.awk_world.specs.definitions.WorldState.{WorldState, SameOpen, IsFresh, Opens}
+use Rattle.awk_world.specs.definitions.WorldState.{WorldState, Logs, SameOpen, IsFresh, Opens}
 use Rattle.awk_world.specs.definitions.Openings.{is_flushed}
 use Rattle.awk_streams.specs.declared.input.Input.{Input}
 use Rattle.awk_streams.specs.declared.named.NamedStream.{NamedStream}
@@ -17,12 +20,13 @@ use Rattle.awk_streams.specs.declared.named.NamedStream.TheVariants as named
 use Rattle.awk_streams.specs.definitions.Named as words
 use Rattle.awk_streams.specs.definitions.Streams.{StreamsView, number_of, name_of, IsOpenMain, AreOpenNamed, AreOthers, AreApart, IsApartFrom, AreOpen, held_in, is_output_among, IsSoundInput, IsSound, AreSoundNamed, HaveOtherNames, AreOnce, AreSound}
 use Rattle.awk_streams.specs.support.Kept.{SameAt, SameFor, SameForMain}
-use Rattle.awk_streams.specs.support.Asks.{new_output, new_input}
+use Rattle.awk_streams.specs.support.Asks.{FindsNoMemory, new_output, new_input}
 use Rattle.awk_record.specs.Cut.{Ending}
 use Rattle.awk_record.specs.Buffer.{Pending}
 use Rattle.awk_streams.specs.definitions.Streams.{numbered}
 use Rattle.awk_streams.specs.support.Places.{is_named_input, is_named_output}
 use Rattle.awk_streams.proofs.OwnedLemmas.{is_other, of_first, of_last}
+use Rattle.awk_streams.proofs.GrowsLemmas.{Grows-self, logs_grow, fails_now}
 use Rattle.awk_streams.proofs.NamesLemmas.{AllFail}
 use Rattle.awk_streams.proofs.ViewLemmas.{keeps_open}
 use Rattle.awk_streams.proofs.StreamsLemmas.{main_same, sound_same, same_for_all, same_for_others, same_for_main}
@@ -267,3 +271,30 @@ no_input kind name (named.Output k n output ∷ xs) h = (refl, no_input kind nam
 
 pub empty_pending : (p : Pending) → p.bytes ≡ [] → p.ending ≡ None → p ≡ record { bytes = []; ending = None }
 empty_pending p bytes ending = ap (λ (b : List ℕ). record { bytes = b; ending = p.ending }) bytes ∙ ap (λ (e : Option Ending). record { bytes = []; ending = e }) ending
+
+-- want of memory, of the streams' own or of the world
+
+pub finds_none : (world : WorldState) (old s : StreamsView) (xs : List NamedStream) → s ≡ old → xs ≡ s.named → FindsNoMemory world old world record s { named = xs }
+finds_none world old s xs view same = record {
+  log = refl;
+  same = ap (λ (l : List NamedStream). record s { named = l }) same ∙ view;
+  open_as = λ j. refl;
+  failure = inl refl;
+  grows = Grows-self world;
+}
+
+pub world_finds_none : (before after : WorldState) (old s : StreamsView) (xs : List NamedStream) → s ≡ old → xs ≡ s.named → SameOpen before after → Logs (DidNot None WorldMemory) before after → FindsNoMemory before old after record s { named = xs }
+world_finds_none before after old s xs view same open' logs = record {
+  log = logs.0;
+  same = ap (λ (l : List NamedStream). record s { named = l }) same ∙ view;
+  open_as = open';
+  failure = inr (fails_now None WorldMemory before after logs);
+  grows = logs_grow (DidNot None WorldMemory) before after logs;
+}
+
+-- what is added stands behind all others
+pub stands_last : (old xs : List NamedStream) (x : NamedStream) (place : ℕ) → xs ≡ old ++ x ∷ [] → place ≡ length old → slice_get xs place ≡ Some x
+stands_last old xs x place is at =
+    let here : get_or xs place x ≡ x = ap (λ (l : List NamedStream). get_or l place x) is ∙ (ap (λ n. get_or (old ++ x ∷ []) n x) at ∙ get_or-append_seam old x [] x) in
+    let long : length xs ≡ length old + 1 = ap length is ∙ length-append old (x ∷ []) in
+    slice_get-get_or xs place x (omega (arith, long, at)) ∙ ap Some here

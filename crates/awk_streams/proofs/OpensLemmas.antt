@@ -170,4 +170,4 @@ finds_nothing b before mid after old s new u prepares none = record {
 }
 
 pub loses_before : (b : Bool) (before mid : WorldState) (old s : StreamsView) (e : StreamFault) → Prepares b before old (Err e) mid s → LosesBytes before old mid s
-loses_before b before mid old s e prepares = record { only = prepares.touches.only; begins = prepares.begins; kept = λ none. absurd (not_marked mid.first_failure prepares.marked none) }
+loses_before b before mid old s e prepares = record { only = prepares.touches.only; begins = prepares.begins; kept = λ none. absurd (not_marked mid.failures prepares.marked none) }

@@ -4,7 +4,7 @@ use Rattle.std.specs.Prelude.{OnOk, OnErr, IfErr}
 use Rattle.awk_world.specs.definitions.WorldState.{WorldState, FailsNow}
 use Rattle.awk_world.specs.definitions.Openings.{openings, in_order}
 use Rattle.awk_streams.specs.declared.fault.StreamFault.{StreamFault}
-use Rattle.awk_streams.specs.definitions.Outputs.{IsOutputFault}
+use Rattle.awk_streams.specs.definitions.Outputs.{IsOutputFault, FailsWith}
 use Rattle.awk_streams.specs.definitions.Streams.{StreamsView, held_of, with_held, is_output_among}
 use Rattle.awk_streams.specs.support.Held.{HoldsNothing}
 use Rattle.awk_streams.specs.support.Brings.{BringsHeld, AreFlushedBut}
@@ -12,7 +12,7 @@ use Rattle.awk_streams.specs.support.Asks.{Prepares}
 use Rattle.awk_streams.proofs.BringLemmas.{touches-self, begins-self}
 use Rattle.awk_streams.proofs.ViewLemmas.{brings_of, fails_as}
 
-pub prepares_command : (before after : WorldState) (old new : StreamsView) (result : Result (Unit {0}) StreamFault) → BringsHeld before (held_of old) result after (held_of new) → OnOk result (HoldsNothing new) → OnOk result (AreFlushedBut [] after.log) → OnErr result (FailsNow before after) →
+pub prepares_command : (before after : WorldState) (old new : StreamsView) (result : Result (Unit {0}) StreamFault) → BringsHeld before (held_of old) result after (held_of new) → OnOk result (HoldsNothing new) → OnOk result (AreFlushedBut [] after.log) → IfErr result (λ fault. FailsWith fault before after) →
     IfErr result IsOutputFault → Prepares true before old result after new
 prepares_command before after old new (Ok u) b empty flushed fails fault = record {
   touches = b.touches;
@@ -46,6 +46,6 @@ pub ok_given : (L P : Type 0) (r : Result (Unit {0}) StreamFault) → OnOk r (L 
 ok_given L P (Ok u) f t = f t
 ok_given L P (Err e) f t = tt
 
-pub err_given : (L P : Type 0) (r : Result (Unit {0}) StreamFault) → OnErr r (L → P) → L → OnErr r P
+pub err_given : (L : Type 0) (P : StreamFault → Type 0) (r : Result (Unit {0}) StreamFault) → IfErr r (λ e. L → P e) → L → IfErr r P
 err_given L P (Ok u) f t = tt
 err_given L P (Err e) f t = f t

@@ -18,7 +18,7 @@ use Rattle.awk_streams.specs.declared.named.NamedStream.TheVariants as named
 use Rattle.awk_streams.specs.declared.streams.Target.{Target}
 use Rattle.awk_streams.specs.declared.streams.Target.TheVariants as target
 use Rattle.awk_streams.specs.definitions.Named.{with_bytes}
-use Rattle.awk_streams.specs.definitions.Outputs.{IsOutputFault, WritesAll}
+use Rattle.awk_streams.specs.definitions.Outputs.{IsOutputFault, WritesAll, FailsAtOutput}
 use Rattle.awk_streams.specs.definitions.Streams.{StreamsView, AreOpen, AreSound, held_of, with_held, is_output_among, place_of, number_of, number_of_some, place_of_some, number_at, opening_at, IsTarget, FailsAs, unheld, all_unheld}
 use Rattle.awk_streams.specs.definitions.NamedOutputs.{Prints}
 use Rattle.awk_streams.specs.support.Buffered.{PrintsOrHolds}
@@ -33,6 +33,7 @@ use Rattle.awk_streams.proofs.StreamsLemmas.{but_held_numbered}
 use Rattle.awk_streams.proofs.ViewLemmas.{keeps_as, keeps_sound, keeps_open, fails_as, change_output, change_error}
 use Rattle.awk_streams.proofs.PlaceLemmas.{in_order-receives, place-held, stands_opened, standard_opened}
 use Rattle.awk_streams.proofs.NamedLemmas.{change_named, open_at, sound_at, among_at, unheld_set}
+use Rattle.awk_streams.proofs.WritingLemmas.{fails_with}
 
 all_of_it : (result : Result (Unit {0}) StreamFault) (id : ℕ) (held bytes held' written more : List ℕ) (count : ℕ) (hs hs' : List (ℕ × List ℕ)) (os os' : List (ℕ × Opening)) (n : ℕ) → ChangesHeld id held held' hs hs' → place_of id os ≡ Some n →
     held ++ bytes ≡ written ++ more → OnOk result (held' ≡ more) → OnOk result (count ≡ length written) → os' ≡ receives id (take count written) os →
@@ -56,9 +57,9 @@ part_of_it (Err e) id held bytes held' written more count hs hs' os os' n change
     subst (λ l. Begins (in_order (with_held hs' os')) l) (in_order-receives id n bytes (with_held hs os) (place-held id hs os ∙ place))
     (subst (λ l. Begins (in_order (with_held hs' l)) (in_order (receives id bytes (with_held hs os)))) now begins)
 
-printed_or_failed : (before after : WorldState) (result : Result (Unit {0}) StreamFault) → IfErr result IsOutputFault → OnOk result (after.first_failure ≡ before.first_failure) → OnErr result (FailsNow before after) → FailsAs result before after
-printed_or_failed before after (Ok u) fault same fails = same
-printed_or_failed before after (Err e) fault same fails = fails_as before after e fault fails
+printed_or_failed : (id : ℕ) (before after : WorldState) (result : Result (Unit {0}) StreamFault) → IfErr result IsOutputFault → OnOk result (after.failures ≡ before.failures) → IfErr result (λ fault. FailsAtOutput id fault before after) → FailsAs result before after
+printed_or_failed id before after (Ok u) fault same fails = same
+printed_or_failed id before after (Err e) fault same fails = fails_as before after e fault (fails_with id e before after fails)
 
 pub print_touches : (id : ℕ) (written : List ℕ) (before after : WorldState) (hs : List (ℕ × List ℕ)) (result : Result (Unit {0}) StreamFault) → is_output_among id hs ≡ true → IsWritable id before.log → SameOpen before after → WritesAll id written before result after →
     Touches (λ j. is_output_among j hs) before after
@@ -87,7 +88,7 @@ prints t id n held held' bytes before after old new result number opens still pl
       marked = w.failure;
       counts = touches.counts;
       same = keeps_as before after old new touches.same main same;
-      failure = printed_or_failed before after result fault w.no_failure w.fails;
+      failure = printed_or_failed id before after result fault w.no_failure w.fails;
     }
 
 -- printing, step by step

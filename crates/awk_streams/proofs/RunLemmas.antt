@@ -1,15 +1,15 @@
 -- What a run of a command tells.
 use Rattle.std.proofs.Common.{◌≡◌, ◌+◌, inl, inr, ℕ, ℤ, List, [], ◌∷◌, None, Result, Ok, Err, refl, sym, ◌∙◌, ap, subst, arith}
-use Rattle.std.specs.Prelude.{OnErr}
+use Rattle.std.specs.Prelude.{OnErr, IfErr}
 use Rattle.awk_world.specs.declared.world.WorldFault.{WorldFault}
 use Rattle.awk_world.specs.declared.world.WorldFault.TheVariants.{Memory as WorldMemory, Failed}
-use Rattle.awk_world.specs.definitions.Log.{Event, Ran, running}
+use Rattle.awk_world.specs.definitions.Log.{Event, DidNot, Ran, running}
 use Rattle.awk_world.specs.definitions.Writes.{GoesOn}
 use Rattle.awk_world.specs.definitions.WorldState.{WorldState, Logs, SameOpen, FailsNow}
 use Rattle.awk_world.specs.definitions.Openings.{openings, in_order, Begins}
 use Rattle.awk_streams.specs.declared.fault.StreamFault.{StreamFault}
 use Rattle.awk_streams.specs.declared.fault.StreamFault.TheVariants as fault
-use Rattle.awk_streams.specs.definitions.Outputs.{IsOutputFault}
+use Rattle.awk_streams.specs.definitions.Outputs.{IsOutputFault, FailsWith}
 use Rattle.awk_streams.specs.definitions.Streams.{StreamsView, AreSound, held_of, with_held, printed_openings, AreBringing, FailsBy}
 use Rattle.awk_streams.specs.definitions.Commands.{BringsAll, RunsCommand}
 use Rattle.awk_streams.specs.support.Brings.{BringsHeld}
@@ -29,7 +29,7 @@ pub run_sound : (command : List ℕ) (mid after : WorldState) (s : StreamsView) 
 run_sound command mid after s (Ok n) same logs h = left_sound mid after s (Ran command n) h (runs_leave command n mid.log) same logs.0
 run_sound command mid after s (Err e) same logs h = same_sound mid after s h same logs.0
 
-ran_told : (command : List ℕ) (before mid after : WorldState) (old s : StreamsView) (n : ℤ) → BringsAll before old mid s → after.log ≡ Ran command n ∷ mid.log → after.first_failure ≡ mid.first_failure → RunsCommand command before old (Ok n) after s
+ran_told : (command : List ℕ) (before mid after : WorldState) (old s : StreamsView) (n : ℤ) → BringsAll before old mid s → after.log ≡ Ran command n ∷ mid.log → after.failures ≡ mid.failures → RunsCommand command before old (Ok n) after s
 ran_told command before mid after old s n all is same_failure =
     let event : Event = Ran command n in
     let leaves = runs_leave command n mid.log in
@@ -54,9 +54,9 @@ ran_told command before mid after old s n all is same_failure =
       failure = same_failure ∙ all.no_failure;
     }
 
-ran_unasked : (command : List ℕ) (before mid after : WorldState) (old s : StreamsView) → BringsAll before old mid s → Logs None mid after → RunsCommand command before old (Err fault.Memory) after s
+ran_unasked : (command : List ℕ) (before mid after : WorldState) (old s : StreamsView) → BringsAll before old mid s → Logs (DidNot None WorldMemory) mid after → RunsCommand command before old (Err fault.Memory) after s
 ran_unasked command before mid after old s all (is, fails) = record {
-  grows = Grows-then all.grows (logs_grow None mid after (is, fails));
+  grows = Grows-then all.grows (logs_grow (DidNot None WorldMemory) mid after (is, fails));
   ran = record {
     only = subst (λ (l : List Event). GoesOn AreBringing before.log l) (sym is) all.brings.only;
     begins =
@@ -64,7 +64,7 @@ ran_unasked command before mid after old s all (is, fails) = record {
         subst (λ l. Begins l (printed_openings before old)) (sym same) (begins-self (printed_openings before old));
     kept = λ none. ap (λ l. in_order (with_held (held_of s) (openings l))) is ∙ all.printed;
   };
-  failure = λ none. inr (fails_later before mid after all.no_failure (fails_now mid after (is, fails)) none);
+  failure = inr (fails_later WorldMemory before mid after all.no_failure (fails_now None WorldMemory mid after (is, fails)));
 }
 
 never : (answer : Result ℤ WorldFault) (e : WorldFault) → answer ≡ Err e → (answer ≡ Err Failed → ⊥) → e ≡ Failed → ⊥
@@ -91,6 +91,6 @@ run_unbrought command before mid old s e (inr failed) brings fails =
     }
 
 -- a run that fails is the world's failure
-pub run_fails : (command : List ℕ) (before mid after : WorldState) (r : Result ℤ WorldFault) → mid.first_failure ≡ before.first_failure → Logs (running command r) mid after → OnErr (run_answer_of r) (FailsNow before after)
+pub run_fails : (command : List ℕ) (before mid after : WorldState) (r : Result ℤ WorldFault) → mid.failures ≡ before.failures → Logs (running command r) mid after → IfErr (run_answer_of r) (λ fault. FailsWith fault before after)
 run_fails command before mid after (Ok n) same logs = tt
-run_fails command before mid after (Err fault) same logs = fails_later before mid after same (fails_now mid after logs)
+run_fails command before mid after (Err fault) same logs = (fault, refl, fails_later fault before mid after same (fails_now None fault mid after logs))

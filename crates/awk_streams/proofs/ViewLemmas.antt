@@ -4,13 +4,13 @@ use Rattle.std.specs.Prelude.{OnOk, is_some, ◌==◌, ◌||◌}
 use Rattle.std.specs.Result.{result_and}
 use Rattle.awk_world.specs.definitions.Log.{Event}
 use Rattle.awk_world.specs.definitions.Oracle.{Oracle, Source}
-use Rattle.awk_world.specs.definitions.WorldState.{WorldState, SameOpen, FailsNow}
+use Rattle.awk_world.specs.definitions.WorldState.{WorldState, SameOpen, FailsNow, is_any}
 use Rattle.awk_world.specs.definitions.Openings.{Opening, openings, in_order, receives, AreFlushed, Begins}
 use Rattle.awk_streams.specs.declared.fault.StreamFault.{StreamFault}
 use Rattle.awk_streams.specs.declared.input.Input.{Input}
 use Rattle.awk_streams.specs.declared.named.NamedStream.{NamedStream}
 use Rattle.awk_streams.specs.declared.named.NamedStream.TheVariants as named
-use Rattle.awk_streams.specs.definitions.Outputs.{IsOutputFault}
+use Rattle.awk_streams.specs.definitions.Outputs.{IsOutputFault, FailsWith}
 use Rattle.awk_streams.specs.definitions.Named as words
 use Rattle.awk_streams.specs.definitions.Streams.{StreamsView, numbered, IsOpenMain, AreOpenNamed, AreOthers, IsApartFrom, AreApart, AreOpen, number_of, held_in, held_of, with_held, is_output_among, IsSoundMain, AreSoundNamed, AreSound, IsMainRest, StandFor, AreAs, FailsBy, Brings, all_unheld}
 use Rattle.awk_streams.specs.definitions.NamedOutputs.{LosesBytes}
@@ -24,6 +24,8 @@ use Rattle.awk_streams.proofs.StreamsLemmas.{main_same, main_rest_same, sound_sa
 use Rattle.awk_streams.proofs.OwnedLemmas.{of_main_by, of_named_by}
 use Rattle.awk_streams.proofs.NamedLemmas.{other_outputs}
 use Rattle.awk_streams.proofs.BringLemmas.{on_ok, touches_as, flush_brings, flush_flushed, brings-then}
+use Rattle.awk_world.specs.declared.failure.Failure.{Failure}
+use Rattle.awk_world.specs.declared.world.WorldFault.TheVariants.{Failed, Memory as WorldMemory}
 
 -- which streams stand is the same
 
@@ -173,17 +175,17 @@ brings_all before after old new u main same b empty flushed = record {
 }
 
 -- no failure is met where one is marked
-pub not_marked : (failure : Option ℕ) → is_some failure ≡ true → failure ≡ None → ⊥
-not_marked None marked none = absurd cc
-not_marked (Some n) marked none = absurd cc
+pub not_marked : (failures : List Failure) → is_any failures ≡ true → failures ≡ [] → ⊥
+not_marked [] marked none = absurd cc
+not_marked (f ∷ failures) marked none = absurd cc
 
 pub loses_bytes : (before after : WorldState) (old new : StreamsView) (result : Result (Unit {0}) StreamFault) → BringsHeld before (held_of old) result after (held_of new) → LosesBytes before old after new
 loses_bytes before after old new (Ok u) b = record { only = b.touches.only; begins = b.begins; kept = λ none. ap in_order b.printed }
-loses_bytes before after old new (Err e) b = record { only = b.touches.only; begins = b.begins; kept = λ none. absurd (not_marked after.first_failure b.failure none) }
+loses_bytes before after old new (Err e) b = record { only = b.touches.only; begins = b.begins; kept = λ none. absurd (not_marked after.failures b.failure none) }
 
-pub fails_as : (before after : WorldState) (e : StreamFault) → IsOutputFault e → FailsNow before after → FailsBy e before after
-fails_as before after e (inl memory) fails = subst (λ (f : StreamFault). FailsBy f before after) (sym memory) (λ none. inr (fails none))
-fails_as before after e (inr failed) fails = subst (λ (f : StreamFault). FailsBy f before after) (sym failed) fails
+pub fails_as : (before after : WorldState) (e : StreamFault) → IsOutputFault e → FailsWith e before after → FailsBy e before after
+fails_as before after e fault (WorldMemory, is, fails) = subst (λ (f : StreamFault). FailsBy f before after) (sym is) (inr fails)
+fails_as before after e fault (Failed, is, fails) = subst (λ (f : StreamFault). FailsBy f before after) (sym is) fails
 
 -- the steps of bringing all
 

@@ -1,7 +1,8 @@
-use Rattle.std.proofs.Common.{◌≡◌, ℕ, ◌+◌, ◌<◌, ◌-◌, List, [], ◌∷◌, ◌++◌, length, take, drop, Some, None, refl, sym, ◌∙◌, ap, arith, append_assoc, append-nil}
+use Rattle.std.proofs.Common.{◌≡◌, ℕ, ◌+◌, ◌<◌, ◌-◌, List, [], ◌∷◌, ◌++◌, length, take, drop, Some, refl, sym, ◌∙◌, ap, arith, append_assoc, append-nil}
 use Rattle.std.proofs.lemmas.Bool.{cond-true, cond-false, ne_eqb, eq-eqb}
 use Rattle.std.proofs.lemmas.List.{take_rest, take-take, drop-take, take-append-drop}
-use Rattle.awk_world.specs.definitions.Log.{Event, Wrote, taken_or_none}
+use Rattle.awk_world.specs.definitions.Log.{Event, Wrote, Did, DidNot, taken_or_none}
+use Rattle.awk_world.specs.declared.world.WorldFault.TheVariants.{Failed}
 use Rattle.awk_world.specs.definitions.Writes.{with_events, GoesOn, Writes}
 
 pub with_events-push : (es : List Event) (e : Event) (log : List Event) → with_events (es ++ e ∷ []) log ≡ e ∷ with_events es log
@@ -14,11 +15,11 @@ Writes-push id bytes bs (Wrote i b ∷ es) (same, (rest, is, later)) =
     (same, (rest ++ bs, ap (λ x. x ++ bs) is ∙ append_assoc b rest bs, Writes-push id rest bs es later))
 Writes-push id bytes bs (e ∷ es) h = absurd h
 
-pub taken-some : (id n : ℕ) (bs : List ℕ) → 0 < n → 0 < length bs → taken_or_none id n bs ≡ Some (Wrote id (take n bs))
+pub taken-some : (id n : ℕ) (bs : List ℕ) → 0 < n → 0 < length bs → taken_or_none id n bs ≡ Did (Wrote id (take n bs))
 taken-some id n [] some room = absurd (omega arith)
 taken-some id n (b ∷ bs) some room = cond-false _ _ _ (ne_eqb n 0 (λ (e : n ≡ 0). omega arith))
 
-pub taken-none : (id n : ℕ) (bs : List ℕ) → n ≡ 0 → 0 < length bs → taken_or_none id n bs ≡ None
+pub taken-none : (id n : ℕ) (bs : List ℕ) → n ≡ 0 → 0 < length bs → taken_or_none id n bs ≡ DidNot (Some id) Failed
 taken-none id n [] none room = absurd (omega (arith, room))
 taken-none id n (b ∷ bs) none room = cond-true _ _ _ (eq-eqb n 0 none)
 

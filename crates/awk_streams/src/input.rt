@@ -73,7 +73,7 @@ fn read_into<W: World>(
     ensures memory { IfErr result (λ e. e ≡ BufferFault.Memory) }
     ensures less { OnOk result
         (room_of buffer.new.ending (length buffer.new.bytes) < room_of buffer.old.ending (length buffer.old.bytes)) }
-    ensures no_failure { OnOk result (W.is_logged → (W.state world.new).first_failure ≡ (W.state world.old).first_failure) }
+    ensures no_failure { OnOk result (W.is_logged → (W.state world.new).failures ≡ (W.state world.old).failures) }
     ensures failure { OnErr result (W.is_logged → MayFailNow (W.state world.old) (W.state world.new)) }
     ensures grows { W.is_logged → Grows (W.state world.old) (W.state world.new) }
 {
@@ -112,7 +112,7 @@ fn read_behind<W: World>(
     ensures memory { IfErr result (λ e. e ≡ BufferFault.Memory) }
     ensures less { OnOk result
         (room_of buffer.new.ending (length buffer.new.bytes) < room_of buffer.old.ending (length buffer.old.bytes)) }
-    ensures no_failure { OnOk result (W.is_logged → (W.state world.new).first_failure ≡ (W.state world.old).first_failure) }
+    ensures no_failure { OnOk result (W.is_logged → (W.state world.new).failures ≡ (W.state world.old).failures) }
     ensures failure { OnErr result (W.is_logged → MayFailNow (W.state world.old) (W.state world.new)) }
     ensures grows { W.is_logged → Grows (W.state world.old) (W.state world.new) }
 {
@@ -146,7 +146,7 @@ fn read_more<W: World>(
     ensures memory { IfErr result (λ e. e ≡ BufferFault.Memory) }
     ensures less { OnOk result
         (room_of buffer.new.ending (length buffer.new.bytes) < room_of buffer.old.ending (length buffer.old.bytes)) }
-    ensures no_failure { OnOk result (W.is_logged → (W.state world.new).first_failure ≡ (W.state world.old).first_failure) }
+    ensures no_failure { OnOk result (W.is_logged → (W.state world.new).failures ≡ (W.state world.old).failures) }
     ensures failure { OnErr result (W.is_logged → MayFailNow (W.state world.old) (W.state world.new)) }
     ensures grows { W.is_logged → Grows (W.state world.old) (W.state world.new) }
 {
@@ -181,7 +181,7 @@ fn read_next<W: World>(
     ensures pulls { W.is_logged →
         Pulls id separator.now buffer.old (W.state world.old).log result buffer.new (W.state world.new).log }
     ensures no_failure { W.is_logged → result ≢ Err BufferFault.Memory →
-        (W.state world.new).first_failure ≡ (W.state world.old).first_failure }
+        (W.state world.new).failures ≡ (W.state world.old).failures }
     ensures failure { W.is_logged → result ≡ Err BufferFault.Memory → MayFailNow (W.state world.old) (W.state world.new) }
     ensures grows { W.is_logged → Grows (W.state world.old) (W.state world.new) }
 {
@@ -221,7 +221,7 @@ pub fn next_from<W: World>(
     ensures pulls { W.is_logged →
         Pulls id separator.now buffer.old (W.state world.old).log result buffer.new (W.state world.new).log }
     ensures no_failure { W.is_logged → result ≢ Err BufferFault.Memory →
-        (W.state world.new).first_failure ≡ (W.state world.old).first_failure }
+        (W.state world.new).failures ≡ (W.state world.old).failures }
     ensures failure { W.is_logged → result ≡ Err BufferFault.Memory → MayFailNow (W.state world.old) (W.state world.new) }
     ensures grows { W.is_logged → Grows (W.state world.old) (W.state world.new) }
 {
@@ -253,7 +253,7 @@ pub fn close<W: World>(world: &mut W, input: Option<Input>)
     ensures open { ClosesMain (W.state world.old) (W.state world.new) input }
     ensures log { W.is_logged →
         (answer : ℤ) × ((W.state world.new).log ≡ closed_main input answer (W.state world.old).log) }
-    ensures no_failure { W.is_logged → (W.state world.new).first_failure ≡ (W.state world.old).first_failure }
+    ensures no_failure { W.is_logged → (W.state world.new).failures ≡ (W.state world.old).failures }
 {
     if let Some(input) = input {
         world.close(input.id);

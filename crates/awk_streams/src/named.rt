@@ -7,7 +7,7 @@ ghost use Rattle.awk_streams.specs.definitions.Named.{is_output_command as is_ou
 ghost use Rattle.std.specs.Prelude.{List, ℕ, [], false, ◌≢◌, Ok, IsTrue, IfErr, OnOk, OnErr, Some, None, length, ◌<◌, vec_len, vec_capacity, ◌++◌, ◌∷◌};
 ghost use Rattle.std.specs.List.{position, list_any};
 ghost use Rattle.awk_world.specs.definitions.WorldState.{SameOpen, FailsNow};
-ghost use Rattle.awk_streams.specs.definitions.Outputs.{IsOutputFault};
+ghost use Rattle.awk_streams.specs.definitions.Outputs.{IsOutputFault, FailsWith};
 ghost use Rattle.awk_streams.specs.definitions.Streams.{AreOpenNamed, AreApart, AreSoundNamed, held_in};
 ghost use Rattle.awk_streams.specs.definitions.Commands.{BringsEach};
 ghost use Rattle.awk_streams.specs.definitions.Flushes.{is_output_called as is_output_called_so};
@@ -210,7 +210,7 @@ pub fn bring<W: World>(named: &mut [NamedStream], world: &mut W) -> Result<(), S
         BringsHeld (W.state world.old) (held_in named.old) result (W.state world.new) (held_in named.new) }
     ensures flushed { OnOk result (W.is_logged → AreFlushedBut (held_in named.old) (W.state world.old).log →
         AreFlushedBut [] (W.state world.new).log) }
-    ensures fails { OnErr result (W.is_logged → FailsNow (W.state world.old) (W.state world.new)) }
+    ensures fails { IfErr result (λ fault. W.is_logged → FailsWith fault (W.state world.old) (W.state world.new)) }
 {
     for stream in named.iter_mut() {
         stream.flush(world)?;

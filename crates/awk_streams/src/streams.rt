@@ -3,7 +3,7 @@ ghost use Rattle.std.specs.Prelude.{◌≡◌, ◌≢◌, ◌⊎◌, ℕ, ℤ, [
 ghost use Rattle.std.specs.Prelude.{◌<◌, ◌≤◌, length};
 ghost use Rattle.awk_world.specs.definitions.WorldState.{SameOpen, FailsNow};
 ghost use Rattle.awk_streams.specs.definitions.Inputs.{IsInputFault};
-ghost use Rattle.awk_streams.specs.definitions.Outputs.{IsOutputFault};
+ghost use Rattle.awk_streams.specs.definitions.Outputs.{IsOutputFault, FailsWith};
 ghost use Rattle.awk_streams.specs.definitions.Streams.{AreOpen, AreSound, IsFreshMain, IsSameMain, ClosesMain, held_of};
 ghost use Rattle.awk_streams.specs.definitions.MainInput.{OpensMain, AsksMain, EndsMain};
 ghost use Rattle.awk_streams.specs.definitions.Streams.{all_unheld};
@@ -114,7 +114,7 @@ impl Streams {
         ensures open { AreOpen (W.state world.new) self.new }
         ensures sound { W.is_logged → AreSound (W.state world.new) self.new }
         ensures told { W.is_logged → OpensMain kind name.now (W.state world.old) self.old result (W.state world.new) self.new }
-        ensures memory { W.is_logged → result ≡ Err StreamFault.Memory → FailsNow (W.state world.old) (W.state world.new) }
+        ensures memory { W.is_logged → result ≡ Err StreamFault.Memory → FailsNow WorldFault.Memory (W.state world.old) (W.state world.new) }
     {
         match world.open_input(kind, name) {
             Ok(id) => {
@@ -191,7 +191,7 @@ impl Streams {
         ensures sound { W.is_logged → AreSound (W.state world.new) self.new }
         ensures told { W.is_logged → BringsHeld (W.state world.old) (held_of self.old) result (W.state world.new) (held_of self.new) }
         ensures flushed { OnOk result (W.is_logged → AreFlushedBut [] (W.state world.new).log) }
-        ensures fails { OnErr result (W.is_logged → FailsNow (W.state world.old) (W.state world.new)) }
+        ensures fails { IfErr result (λ fault. W.is_logged → FailsWith fault (W.state world.old) (W.state world.new)) }
     {
         self.output.flush(world, STANDARD_OUTPUT)?;
         self.error.flush(world, STANDARD_ERROR)?;

@@ -2,7 +2,7 @@
 ghost use Rattle.std.specs.Prelude.{◌≡◌, ◌≤◌, ◌<◌, ◌+◌, [], ◌∷◌, vec_len, vec_capacity, OnOk, OnErr, IfErr};
 ghost use Rattle.std.specs.Prelude.{Some, None, IsTrue, IfOk, Ok, Err, length, take, slice_get};
 ghost use Rattle.awk_world.specs.definitions.WorldState.{Logs, IsFresh, Opens, Closes, SameOpen};
-ghost use Rattle.awk_world.specs.definitions.Log.{Event, Closed, failure_after, logged, input_opening};
+ghost use Rattle.awk_world.specs.definitions.Log.{Event, Closed, Did, DidNot, failures_after, logged, input_opening};
 ghost use Rattle.awk_world.specs.definitions.Log.{output_opening, reading, writing, flushing, running};
 ghost use Rattle.awk_world.specs.definitions.Writes.{received};
 ghost use Rattle.awk_world.specs.definitions.Script.{event_of, events};
@@ -16,6 +16,7 @@ ghost use Rattle.awk_world.specs.support.ScriptStreams.{is_open_in, open_at, ope
 
 use crate::answer::{Answer, take_closing, take_input, take_output, take_run};
 use crate::entry::{Entry, add_entry, push_entry, receive, reserve_entry};
+use crate::failure::{Failure, Failures};
 use crate::planned_faults::PlannedFaults;
 use crate::script_stream::{Portion, ScriptStream, add, advance, is_of_command, read_next, shut};
 use crate::world::{InputKind, Mode, OUTPUT_BUFFER_SIZE, OutputKind, World, WorldFault};
@@ -34,7 +35,7 @@ pub struct ScriptWorld {
     still_open: usize,
     faults: PlannedFaults,
     log: Vec<Entry>,
-    first_failure: Option<usize>,
+    failures: Failures,
     // Room for the closing of each open stream.
     ghost room: { vec_len log + still_open ≤ vec_capacity log },
     ghost counted: { still_open ≡ open_count streams.items },
@@ -68,7 +69,7 @@ impl ScriptWorld {
     /// memory.
     pub fn new(alloc: Global, answers: Vec<Answer>) -> Self
         ensures log { (⟦<ScriptWorld as World>⟧.state result).log ≡ [] }
-        ensures first_failure { (⟦<ScriptWorld as World>⟧.state result).first_failure ≡ None }
+        ensures failures { (⟦<ScriptWorld as World>⟧.state result).failures ≡ [] }
         ensures script { script_of result
             ≡ record { answers = answers.items; streams = []; buffer_size = 65536; faults = no_faults } }
     {
@@ -80,7 +81,7 @@ impl ScriptWorld {
             still_open: 0,
             faults: PlannedFaults::none(),
             log: Vec::new(alloc),
-            first_failure: None,
+            failures: Failures::new(),
         }
     }
 
@@ -151,16 +152,19 @@ impl ScriptWorld {
         self.faults.longest_write = Some(n);
     }
 
-    // A failure, unless there was one before.
-    fn note_failure(&mut self)
-        ensures first_failure { self.new.first_failure ≡ failure_after None (events self.old.log.items) self.old.first_failure }
+    // Notes that a call failed, and the output that it was to write to or flush.
+    fn note_failure(&mut self, output: Option<u64>, what: WorldFault)
+        ensures failures { self.new.failures.list
+            ≡ failures_after (DidNot output what) (events self.old.log.items) self.old.failures.list }
         ensures log { self.new.log.items ≡ self.old.log.items }
         ensures streams { self.new.streams.items ≡ self.old.streams.items }
         ensures script { script_of self.new ≡ script_of self.old }
     {
-        if self.first_failure.is_none() {
-            self.first_failure = Some(self.log.len());
-        }
+        self.failures.note(&Failure {
+            at: self.log.len(),
+            output,
+            what,
+        });
     }
 
     // Logs what was done, and keeps room for the closings. The only error is `Memory`.
@@ -170,7 +174,7 @@ impl ScriptWorld {
         ensures memory { IfErr result (λ fault. fault ≡ WorldFault.Memory) }
         ensures streams { self.new.streams.items ≡ self.old.streams.items }
         ensures script { script_of self.new ≡ script_of self.old }
-        ensures first_failure { self.new.first_failure ≡ self.old.first_failure }
+        ensures failures { self.new.failures ≡ self.old.failures }
     {
         add_entry(&mut self.log, self.still_open, entry)?;
         Ok(())
@@ -185,7 +189,7 @@ impl ScriptWorld {
         ensures refused { OnErr result (self.new.streams.items ≡ self.old.streams.items) }
         ensures answer { IsAnswer (input_answer kind name.now (script_of self.old)) result }
         ensures script { script_of self.new ≡ after_input kind name.now result (script_of self.old) }
-        ensures first_failure { self.new.first_failure ≡ self.old.first_failure }
+        ensures failures { self.new.failures ≡ self.old.failures }
     {
         if self.faults.refuses_call() {
             return Err(WorldFault::Memory);
@@ -210,7 +214,7 @@ impl ScriptWorld {
         ensures answer { IsAnswer (reading_answer id (length into.old) (script_of self.old)) result }
         ensures bytes { IfOk result (λ n. take n into.new ≡ take n (unread (stream_under id (script_of self.old).streams))) }
         ensures script { script_of self.new ≡ after_reading id (length into.old) result (script_of self.old) }
-        ensures first_failure { self.new.first_failure ≡ self.old.first_failure }
+        ensures failures { self.new.failures ≡ self.old.failures }
     {
         if self.faults.refuses_call() {
             return Err(WorldFault::Memory);
@@ -247,7 +251,7 @@ impl ScriptWorld {
         ensures refused { OnErr result (self.new.streams.items ≡ self.old.streams.items) }
         ensures answer { IsAnswer (output_answer kind name.now (script_of self.old)) result }
         ensures script { script_of self.new ≡ after_output kind name.now result (script_of self.old) }
-        ensures first_failure { self.new.first_failure ≡ self.old.first_failure }
+        ensures failures { self.new.failures ≡ self.old.failures }
     {
         if self.faults.refuses_call() {
             return Err(WorldFault::Memory);
@@ -276,7 +280,7 @@ impl ScriptWorld {
         ensures answer { IsAnswer (write_answer (length bytes.now) self.old.faults) result }
         ensures script { script_of self.new ≡ with_plan (after_write self.old.faults) (script_of self.old) }
         ensures streams { self.new.streams.items ≡ self.old.streams.items }
-        ensures first_failure { self.new.first_failure ≡ self.old.first_failure }
+        ensures failures { self.new.failures ≡ self.old.failures }
     {
         let count = self.faults.write(bytes.len())?;
         if count == 0 && !bytes.is_empty() {
@@ -292,7 +296,7 @@ impl ScriptWorld {
         ensures answer { IsAnswer (flush_answer self.old.faults) result }
         ensures script { script_of self.new ≡ with_plan (after_flush self.old.faults) (script_of self.old) }
         ensures streams { self.new.streams.items ≡ self.old.streams.items }
-        ensures first_failure { self.new.first_failure ≡ self.old.first_failure }
+        ensures failures { self.new.failures ≡ self.old.failures }
     {
         self.faults.flush()?;
         self.note_entry(Entry::Flushed(id))
@@ -304,7 +308,7 @@ impl ScriptWorld {
         ensures answer { IsAnswer (run_answer (script_of self.old)) result }
         ensures script { script_of self.new ≡ after_run result (script_of self.old) }
         ensures streams { self.new.streams.items ≡ self.old.streams.items }
-        ensures first_failure { self.new.first_failure ≡ self.old.first_failure }
+        ensures failures { self.new.failures ≡ self.old.failures }
     {
         if self.faults.refuses_call() {
             return Err(WorldFault::Memory);
@@ -322,7 +326,7 @@ impl ScriptWorld {
         ensures script { script_of self.new ≡ after_closing id (script_of self.old) }
         ensures log { self.new.log.items ≡ self.old.log.items }
         ensures streams { self.new.streams.items ≡ self.old.streams.items }
-        ensures first_failure { self.new.first_failure ≡ self.old.first_failure }
+        ensures failures { self.new.failures ≡ self.old.failures }
     {
         if is_of_command(&self.streams, id) {
             take_closing(&mut self.answers)
@@ -339,7 +343,7 @@ impl ScriptWorld {
             (place + 2) }
         ensures answer { result ≡ closing_answer (place + 2) (script_of self.old) }
         ensures script { script_of self.new ≡ after_closing (place + 2) (script_of self.old) }
-        ensures first_failure { self.new.first_failure ≡ self.old.first_failure }
+        ensures failures { self.new.failures ≡ self.old.failures }
     {
         let id = place as u64 + 2;
         let number = self.closing_number(id);
@@ -356,7 +360,7 @@ impl World for ScriptWorld {
     ghost is_logged = { Unit {0} };
 
     ghost state = { λ w.
-        record { is_open = is_open_in w.streams.items; log = events w.log.items; first_failure = w.first_failure } };
+        record { is_open = is_open_in w.streams.items; log = events w.log.items; failures = w.failures.list } };
 
     ghost standard_open = { λ w id h. standard_outputs_open w.streams.items id h };
 
@@ -375,7 +379,7 @@ impl World for ScriptWorld {
             Ok(id) => Ok(id),
             Err(WorldFault::Failed) => Err(WorldFault::Failed),
             Err(WorldFault::Memory) => {
-                self.note_failure();
+                self.note_failure(None, WorldFault::Memory);
                 Err(WorldFault::Memory)
             }
         }
@@ -394,7 +398,7 @@ impl World for ScriptWorld {
             Ok(count) => Ok(count),
             Err(WorldFault::Failed) => Err(WorldFault::Failed),
             Err(WorldFault::Memory) => {
-                self.note_failure();
+                self.note_failure(None, WorldFault::Memory);
                 Err(WorldFault::Memory)
             }
         }
@@ -415,7 +419,7 @@ impl World for ScriptWorld {
             Ok(id) => Ok(id),
             Err(WorldFault::Failed) => Err(WorldFault::Failed),
             Err(WorldFault::Memory) => {
-                self.note_failure();
+                self.note_failure(None, WorldFault::Memory);
                 Err(WorldFault::Memory)
             }
         }
@@ -431,12 +435,12 @@ impl World for ScriptWorld {
     {
         match self.try_write(id, bytes) {
             Ok(0) if !bytes.is_empty() => {
-                self.note_failure();
+                self.note_failure(Some(id), WorldFault::Failed);
                 Ok(0)
             }
             Ok(count) => Ok(count),
             Err(fault) => {
-                self.note_failure();
+                self.note_failure(Some(id), fault);
                 Err(fault)
             }
         }
@@ -458,7 +462,7 @@ impl World for ScriptWorld {
         match self.try_flush(id) {
             Ok(()) => Ok(()),
             Err(fault) => {
-                self.note_failure();
+                self.note_failure(Some(id), fault);
                 Err(fault)
             }
         }
@@ -468,7 +472,7 @@ impl World for ScriptWorld {
         requires open { IsTrue ((⟦<ScriptWorld as World>⟧.state self.old).is_open id) }
         requires opened { 2 ≤ id }
         ensures closes { Closes (⟦<ScriptWorld as World>⟧.state self.old) (⟦<ScriptWorld as World>⟧.state self.new) id }
-        ensures logs { Logs (Some (Closed id result)) (⟦<ScriptWorld as World>⟧.state self.old)
+        ensures logs { Logs (Did (Closed id result)) (⟦<ScriptWorld as World>⟧.state self.old)
             (⟦<ScriptWorld as World>⟧.state self.new) }
         ensures answer { result ≡ closing_answer id (script_of self.old) }
         ensures script { script_of self.new ≡ after_closing id (script_of self.old) }
@@ -487,7 +491,7 @@ impl World for ScriptWorld {
         match self.try_run(command) {
             Ok(answer) => Ok(answer),
             Err(fault) => {
-                self.note_failure();
+                self.note_failure(None, fault);
                 Err(fault)
             }
         }

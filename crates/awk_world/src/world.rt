@@ -3,7 +3,7 @@ ghost use Rattle.std.specs.Prelude.{◌≡◌, ◌≤◌, ◌<◌, ℕ, true, []
 ghost use Rattle.awk_world.specs.declared.world.InputKind.TheVariants.{Standard};
 ghost use Rattle.awk_world.specs.declared.world.OutputKind.TheVariants.{Command as OutputCommand};
 ghost use Rattle.awk_world.specs.declared.world.Mode.TheVariants.{Truncate};
-ghost use Rattle.awk_world.specs.definitions.Log.{input_opening, output_opening, reading, writing, flushing, Closed, running};
+ghost use Rattle.awk_world.specs.definitions.Log.{input_opening, output_opening, reading, writing, flushing, Did, Closed, running};
 ghost use Rattle.awk_world.specs.definitions.WorldState.{WorldState, Logs, IsFresh, Opens, Closes, SameOpen};
 
 use std::alloc::AllocError;
@@ -54,11 +54,11 @@ impl From<AllocError> for WorldFault {
 /// which are always open.
 ///
 /// What is known of a world is which of its streams are open, the log of its openings, readings,
-/// writings, flushes, closings and runs, and its first failure: how long the log was when a call
-/// first answered `Memory`, or a write or a flush failed. Such calls are not in the log. A world
+/// writings, flushes, closings and runs, and its failures: each call that answered `Memory`, and each
+/// write or flush that failed, with how long the log was then. Such calls are not in the log. A world
 /// that is not logged says only which streams are open.
 pub trait World {
-    /// Whether the log and the first failure are those of the calls.
+    /// Whether the log and the failures are those of the calls.
     ghost is_logged: { Type 0 };
 
     /// What is known of the world.
@@ -123,7 +123,7 @@ pub trait World {
         requires opened { 2 ≤ id }
         ensures place { place self.new ≡ place self.old }
         ensures closes { Closes (state self.old) (state self.new) id }
-        ensures logs { is_logged → Logs (Some (Closed id result)) (state self.old) (state self.new) };
+        ensures logs { is_logged → Logs (Did (Closed id result)) (state self.old) (state self.new) };
 
     /// Runs a command to its end, and answers its number. Never `Failed`: a command that can't be
     /// started has a number too.

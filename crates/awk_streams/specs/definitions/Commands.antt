@@ -1,9 +1,9 @@
 -- What closings, runs of commands and the end of a run do (POSIX awk, Input/Output and General Functions: close, system).
-use Rattle.std.specs.Prelude.{◌≡◌, ◌+◌, ◌≤◌, ℕ, ℤ, pos, negsuc, Bool, true, false, List, [], ◌∷◌, ◌++◌, map, length, Option, None, Some, is_some, filter, Result, Ok, Err, OnOk, OnErr, if◌then◌else◌}
+use Rattle.std.specs.Prelude.{◌≡◌, ◌+◌, ◌≤◌, ℕ, ℤ, pos, negsuc, Bool, true, false, List, [], ◌∷◌, ◌++◌, map, length, Option, None, Some, is_some, filter, Result, Ok, Err, OnOk, OnErr, if◌then◌else◌, IfErr}
 use Rattle.std.specs.Result.{result_and}
 use Rattle.awk_world.specs.declared.world.InputKind.{InputKind}
 use Rattle.awk_world.specs.declared.world.OutputKind.{OutputKind}
-use Rattle.awk_world.specs.definitions.WorldState.{WorldState}
+use Rattle.awk_world.specs.definitions.WorldState.{WorldState, is_any, first_of}
 use Rattle.awk_world.specs.definitions.Log.{Event, Wrote, Flushed, Closed, Ran}
 use Rattle.awk_world.specs.definitions.Oracle.{Oracle, Source, IsConsistent, SameCounts, one_if, how_many, opens_input, opens_output, closes_command, runs, standing}
 use Rattle.awk_world.specs.definitions.Writes.{GoesOn}
@@ -14,10 +14,11 @@ use Rattle.awk_streams.specs.declared.fault.StreamFault.TheVariants.{Memory, Wri
 use Rattle.awk_streams.specs.declared.input.Input.{Input}
 use Rattle.awk_streams.specs.declared.named.NamedStream.{NamedStream}
 use Rattle.awk_streams.specs.definitions.Named.{Named, Stream, is_command, is_other, number_among, without_number}
-use Rattle.awk_streams.specs.definitions.Outputs.{WritesAndFlushes}
+use Rattle.awk_streams.specs.definitions.Outputs.{WritesAndFlushes, output_fault_of}
 use Rattle.awk_streams.specs.definitions.Streams.{StreamsView, number_of, name_of, numbered, is_called, held_of, printed_openings, AreAs, FailsAs, AreBringing, Brings}
 use Rattle.awk_streams.specs.definitions.MainInput.{EndsMain}
 use Rattle.awk_streams.specs.definitions.NamedOutputs.{LosesBytes}
+use Rattle.awk_world.specs.declared.failure.Failure.{Failure}
 
 -- a closing of a command is counted, and nothing else
 pub record CountsClosing (is_a_command : Bool) (old new : List Event) : Type 0 where
@@ -52,7 +53,7 @@ pub record ClosesStream (x : Named) (before : WorldState) (old : StreamsView) (a
   pub counts : CountsClosing (is_command x) before.log after.log
   pub answered : (a : Oracle) → IsConsistent a after.log → closing_answer (is_command x) a before.log ≡ answer
   pub streams : (a : Oracle) (main : Option Source) (open_streams : List Stream) → AreAs a before old main open_streams → AreAs a after new main (filter (is_other x) open_streams)
-  pub no_failure : after.first_failure ≡ before.first_failure
+  pub no_failure : after.failures ≡ before.failures
 
 -- these streams are closed in turn; the answer is that of the last one, or this one where there is none
 abbrev pub ClosesEach : List Named → ℤ → WorldState → StreamsView → ℤ → WorldState → StreamsView → Type 0
@@ -69,7 +70,7 @@ pub record BringsAll (before : WorldState) (old : StreamsView) (after : WorldSta
   pub printed : printed_openings after new ≡ printed_openings before old
   pub counts : SameCounts before.log after.log
   pub same : (a : Oracle) (main : Option Source) (open_streams : List Stream) → AreAs a before old main open_streams → AreAs a after new main open_streams
-  pub no_failure : after.first_failure ≡ before.first_failure
+  pub no_failure : after.failures ≡ before.failures
 
 -- the names of the streams that have this text, in the order of their openings
 abbrev pub names_called : List ℕ → List NamedStream → List Named
@@ -152,7 +153,7 @@ pub record BringsFirst (before after : WorldState) : Type 0 where
   pub log : List Event
   pub brings : GoesOn AreBringing before.log log
   pub closes : GoesOn AreOfTheEnd log after.log
-  pub failure : (n : ℕ) → before.first_failure ≡ None → after.first_failure ≡ Some n → n ≤ length log
+  pub failure : (f : Failure) → before.failures ≡ [] → first_of after.failures ≡ Some f → f.at ≤ length log
 
 -- these outputs are brought in turn, each of them whether or not one before it failed, and an output that fails gets no more
 -- bytes; the first failure is the result
@@ -180,7 +181,7 @@ pub record BringsAndCloses (before : WorldState) (old : StreamsView) (result : R
   pub world : WorldState
   pub brings : BringsEach (held_of old) before result world
   pub closes : GoesOn (AreClosings (numbers_open old)) world.log after.log
-  pub no_failure : after.first_failure ≡ world.first_failure
+  pub no_failure : after.failures ≡ world.failures
 
 -- the end of a run
 pub record Finishes (before : WorldState) (old : StreamsView) (result : Result (Unit {0}) StreamFault) (after : WorldState) (new : StreamsView) : Type 0 where
@@ -193,5 +194,7 @@ pub record Finishes (before : WorldState) (old : StreamsView) (result : Result (
   pub ends : OnOk result (EndsAll before old after new)
   pub brought : OnOk result (AreBrought (printed_openings before old) after.log)
   pub begins : Begins (outputs_of after.log) (printed_openings before old)
-  pub no_failure : OnOk result (after.first_failure ≡ before.first_failure)
-  pub failure : OnErr result (is_some after.first_failure ≡ true)
+  pub no_failure : OnOk result (after.failures ≡ before.failures)
+  pub failure : OnErr result (is_any after.failures ≡ true)
+  -- the first failure is the one that the result tells
+  pub blames : (f : Failure) → before.failures ≡ [] → first_of after.failures ≡ Some f → IfErr result (λ fault. fault ≡ output_fault_of f.what)

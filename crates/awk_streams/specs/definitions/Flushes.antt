@@ -95,7 +95,7 @@ pub record FlushesCalled (text : List ℕ) (before : WorldState) (old : StreamsV
   pub printed : printed_openings after new ≡ printed_openings before old
   pub counts : SameCounts before.log after.log
   pub same : (a : Oracle) (main : Option Source) (open_streams : List Stream) → AreAs a before old main open_streams → AreAs a after new main open_streams
-  pub no_failure : after.first_failure ≡ before.first_failure
+  pub no_failure : after.failures ≡ before.failures
 
 abbrev pub TextFlushed : List ℕ → WorldState → StreamsView → Result Bool StreamFault → WorldState → StreamsView → Type 0
 TextFlushed text before old (Ok is_open) after new = FlushesCalled text before old is_open after new

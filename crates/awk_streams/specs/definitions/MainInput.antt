@@ -5,7 +5,8 @@ use Rattle.awk_record.specs.Cut.{longest, cut_of}
 use Rattle.awk_world.specs.declared.world.InputKind.{InputKind}
 use Rattle.awk_world.specs.declared.world.OutputKind.{OutputKind}
 use Rattle.awk_world.specs.definitions.WorldState.{WorldState}
-use Rattle.awk_world.specs.definitions.Log.{Event, OpenedInput, Closed, logged}
+use Rattle.awk_world.specs.definitions.Log.{Event, OpenedInput, Closed, logged, Noted, Did, DidNot}
+use Rattle.awk_world.specs.declared.world.WorldFault.TheVariants.{Memory as WorldMemory}
 use Rattle.awk_world.specs.definitions.Oracle.{Oracle, Source, IsConsistent, SameCounts, one_if, how_many, opens_input, opens_output, closes_command, runs, same_input_kind}
 use Rattle.awk_world.specs.definitions.Orderly.{IsReadable}
 use Rattle.awk_world.specs.definitions.Grows.{Grows}
@@ -27,11 +28,11 @@ pub record CountsInput (kind : InputKind) (name : List ℕ) (old new : List Even
 abbrev pub input_answer : Oracle → InputKind → List ℕ → List Event → Option Source
 input_answer a kind name log = a.input kind name (how_many (opens_input kind name) log)
 
--- what an opening of the main input logs; nothing where memory is refused
-abbrev pub main_opening : InputKind → List ℕ → Result (Unit {0}) StreamFault → Option Input → Option Event
-main_opening kind name (Ok u) (Some input) = Some (OpenedInput kind name (Some input.id))
-main_opening kind name (Err InputNotReadable) main = Some (OpenedInput kind name None)
-main_opening kind name result main = None
+-- what there is to note of an opening of the main input; other faults than these it has none
+abbrev pub main_opening : InputKind → List ℕ → Result (Unit {0}) StreamFault → Option Input → Noted
+main_opening kind name (Ok u) (Some input) = Did (OpenedInput kind name (Some input.id))
+main_opening kind name (Err InputNotReadable) main = Did (OpenedInput kind name None)
+main_opening kind name result main = DidNot None WorldMemory
 
 -- an opening of the main input
 pub record OpensMain (kind : InputKind) (name : List ℕ) (before : WorldState) (old : StreamsView) (result : Result (Unit {0}) StreamFault) (after : WorldState) (new : StreamsView) : Type 0 where
@@ -110,4 +111,4 @@ pub record EndsMain (before : WorldState) (old : StreamsView) (after : WorldStat
   pub printed : printed_openings after new ≡ printed_openings before old
   pub counts : SameCounts before.log after.log
   pub named : (a : Oracle) (open_streams : List Stream) → StandFor a before.log old.named open_streams → StandFor a after.log new.named open_streams
-  pub no_failure : after.first_failure ≡ before.first_failure
+  pub no_failure : after.failures ≡ before.failures

@@ -3,7 +3,7 @@ use Rattle.std.specs.Prelude.{◌≡◌, ◌⊎◌, ◌≤◌, ◌<◌, ◌+◌,
 use Rattle.awk_world.specs.declared.world.InputKind.{InputKind}
 use Rattle.awk_world.specs.declared.world.OutputKind.{OutputKind}
 use Rattle.awk_world.specs.declared.world.Mode.{Mode}
-use Rattle.awk_world.specs.definitions.WorldState.{WorldState}
+use Rattle.awk_world.specs.definitions.WorldState.{WorldState, is_any}
 use Rattle.awk_world.specs.definitions.Log.{Event, OpenedOutput}
 use Rattle.awk_world.specs.definitions.Oracle.{Oracle, Source, IsConsistent, SameCounts, one_if, how_many, opens_input, opens_output, closes_command, runs, same_output_kind}
 use Rattle.awk_world.specs.definitions.Writes.{GoesOn, OnlyWritesTo}
@@ -72,7 +72,7 @@ pub record RefusesOutput (kind : OutputKind) (name : List ℕ) (mode : Mode) (be
 pub record LosesBytes (before : WorldState) (old : StreamsView) (after : WorldState) (new : StreamsView) : Type 0 where
   pub only : GoesOn AreBringing before.log after.log
   pub begins : Begins (printed_openings after new) (printed_openings before old)
-  pub kept : after.first_failure ≡ None → printed_openings after new ≡ printed_openings before old
+  pub kept : after.failures ≡ [] → printed_openings after new ≡ printed_openings before old
 
 abbrev pub OutputOpened : OutputKind → List ℕ → Mode → WorldState → StreamsView → Result Target StreamFault → WorldState → StreamsView → Type 0
 OutputOpened kind name mode before old (Ok target) after new = FindsOutput kind name before old target after new ⊎ GrantsOutput kind name mode before old target after new
@@ -103,7 +103,7 @@ pub record Prints (target : Target) (bytes : List ℕ) (before : WorldState) (ol
   pub still : opening_at target new after.log ≡ Some opening
   pub printed : OnOk result (printed_openings after new ≡ with_bytes opening bytes (printed_openings before old))
   pub partly : OnErr result (Begins (printed_openings after new) (with_bytes opening bytes (printed_openings before old)))
-  pub marked : OnErr result (is_some after.first_failure ≡ true)
+  pub marked : OnErr result (is_any after.failures ≡ true)
   pub counts : SameCounts before.log after.log
   pub same : (a : Oracle) (main : Option Source) (open_streams : List Stream) → AreAs a before old main open_streams → AreAs a after new main open_streams
   pub failure : FailsAs result before after

@@ -4,6 +4,7 @@ use Rattle.std.specs.Prelude.{◌≡◌, ◌≢◌, ◌≤◌, ℕ, Bool, true, 
 use Rattle.awk_world.specs.declared.world.InputKind.{InputKind}
 use Rattle.awk_world.specs.declared.world.InputKind.TheVariants.{Command}
 use Rattle.awk_world.specs.definitions.WorldState.{WorldState, Closes, SameOpen, FailsNow, MayFailNow}
+use Rattle.awk_world.specs.declared.world.WorldFault.TheVariants.{Failed}
 use Rattle.awk_world.specs.definitions.Log.{Event, Wrote, Flushed}
 use Rattle.awk_world.specs.definitions.Oracle.{Oracle, Source, AnInput as InputStands, AnOutput as OutputStands, standing}
 use Rattle.awk_world.specs.definitions.Orderly.{IsReadable, IsInOrder}
@@ -240,11 +241,11 @@ opening_at (target.Named i) streams log = place_of_some (number_of_some (slice_g
 -- a call that ended with this fault
 abbrev pub FailsBy : StreamFault → WorldState → WorldState → Type 0
 FailsBy Memory before after = MayFailNow before after
-FailsBy WriteFailed before after = FailsNow before after
-FailsBy fault before after = after.first_failure ≡ before.first_failure
+FailsBy WriteFailed before after = FailsNow Failed before after
+FailsBy fault before after = after.failures ≡ before.failures
 
 abbrev pub FailsAs : {T : Type 0} → Result T StreamFault → WorldState → WorldState → Type 0
-FailsAs (Ok x) before after = after.first_failure ≡ before.first_failure
+FailsAs (Ok x) before after = after.failures ≡ before.failures
 FailsAs (Err fault) before after = FailsBy fault before after
 
 -- these events only bring bytes to outputs

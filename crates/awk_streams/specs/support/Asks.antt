@@ -9,7 +9,7 @@ use Rattle.awk_world.specs.declared.world.InputKind.{InputKind}
 use Rattle.awk_world.specs.declared.world.OutputKind.{OutputKind}
 use Rattle.awk_world.specs.declared.world.Mode.{Mode}
 use Rattle.awk_world.specs.definitions.Log.{Event, OpenedInput, OpenedOutput}
-use Rattle.awk_world.specs.definitions.WorldState.{WorldState, SameOpen, IsFresh, Opens, MayFailNow}
+use Rattle.awk_world.specs.definitions.WorldState.{WorldState, SameOpen, IsFresh, Opens, MayFailNow, is_any}
 use Rattle.awk_world.specs.definitions.Openings.{openings, in_order, Begins}
 use Rattle.awk_world.specs.definitions.Grows.{Grows}
 use Rattle.awk_streams.specs.declared.fault.StreamFault.{StreamFault}
@@ -33,7 +33,7 @@ pub record Prepares (is_command : Bool) (before : WorldState) (old : StreamsView
   pub printed : OnOk result (with_held (held_of new) (openings after.log) ≡ with_held (held_of old) (openings before.log))
   pub begins : Begins (in_order (with_held (held_of new) (openings after.log))) (in_order (with_held (held_of old) (openings before.log)))
   pub brings : OnOk result (BringsIf is_command before old after.log)
-  pub marked : OnErr result (is_some after.first_failure ≡ true)
+  pub marked : OnErr result (is_any after.failures ≡ true)
   pub failure : FailsAs result before after
 
 -- there was no memory, and nothing was done
@@ -49,7 +49,7 @@ pub record IsRefused (event : Event) (before : WorldState) (old : StreamsView) (
   pub log : after.log ≡ event ∷ before.log
   pub same : new ≡ old
   pub open_as : SameOpen before after
-  pub no_failure : after.first_failure ≡ before.first_failure
+  pub no_failure : after.failures ≡ before.failures
 
 -- the world opened a stream under a number that was free
 pub record IsAdded (id : ℕ) (event : Event) (stream : NamedStream) (before : WorldState) (old : StreamsView) (after : WorldState) (new : StreamsView) : Type 0 where
@@ -57,7 +57,7 @@ pub record IsAdded (id : ℕ) (event : Event) (stream : NamedStream) (before : W
   pub same : new ≡ record old { named = old.named ++ stream ∷ [] }
   pub fresh : IsFresh before id
   pub opens : Opens before after id
-  pub no_failure : after.first_failure ≡ before.first_failure
+  pub no_failure : after.failures ≡ before.failures
 
 abbrev pub new_output : OutputKind → List ℕ → ℕ → NamedStream
 new_output kind name id = named.Output kind name record { id = id; held = [] }
@@ -81,7 +81,7 @@ AsksForNamed kind name before old (Err fault) after new = ⊥
 pub record Takes (separator : List ℕ) (before : WorldState) (old : Input) (step : Result Step BufferFault) (after : WorldState) (new : Input) : Type 0 where
   pub id : new.id ≡ old.id
   pub pulls : Pulls old.id separator old.pending before.log step new.pending after.log
-  pub no_failure : step ≢ Err BufferMemory → after.first_failure ≡ before.first_failure
+  pub no_failure : step ≢ Err BufferMemory → after.failures ≡ before.failures
   pub failure : step ≡ Err BufferMemory → MayFailNow before after
   pub grows : Grows before after
 

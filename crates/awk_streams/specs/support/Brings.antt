@@ -4,7 +4,7 @@ use Rattle.awk_world.specs.definitions.Log.{Event}
 use Rattle.awk_world.specs.definitions.Oracle.{SameCounts}
 use Rattle.awk_world.specs.definitions.Orderly.{IsInOrder}
 use Rattle.awk_world.specs.definitions.Writes.{GoesOn}
-use Rattle.awk_world.specs.definitions.WorldState.{WorldState}
+use Rattle.awk_world.specs.definitions.WorldState.{WorldState, is_any}
 use Rattle.awk_world.specs.definitions.Openings.{openings, in_order, is_flushed, Begins}
 use Rattle.awk_world.specs.definitions.Grows.{Grows}
 use Rattle.awk_streams.specs.declared.fault.StreamFault.{StreamFault}
@@ -37,8 +37,8 @@ pub record BringsHeld (before : WorldState) (old : List (ℕ × List ℕ)) (resu
   pub touches : Touches (λ j. is_output_among j old) before after
   pub printed : OnOk result (with_held new (openings after.log) ≡ with_held old (openings before.log))
   pub begins : Begins (in_order (with_held new (openings after.log))) (in_order (with_held old (openings before.log)))
-  pub no_failure : OnOk result (after.first_failure ≡ before.first_failure)
-  pub failure : OnErr result (is_some after.first_failure ≡ true)
+  pub no_failure : OnOk result (after.failures ≡ before.failures)
+  pub failure : OnErr result (is_any after.failures ≡ true)
 
 -- from these streams to those, bytes were brought, or that failed
 pub record BringsTo (logged : Type 0) (before : WorldState) (old : StreamsView) (result : Result (Unit {0}) StreamFault) (after : WorldState) (new : StreamsView) : Type 0 where

@@ -1,5 +1,5 @@
 -- Flushing some of the outputs, step by step.
-use Rattle.std.specs.Prelude.{◌≡◌, ℕ, zero, suc, Bool, true, false, ◌&&◌, ◌==◌, List, [], ◌∷◌, Option, Some, None, Result, OnOk, OnErr}
+use Rattle.std.specs.Prelude.{◌≡◌, ℕ, zero, suc, Bool, true, false, ◌&&◌, ◌==◌, List, [], ◌∷◌, Option, Some, None, Result, OnOk, OnErr, IfErr}
 use Rattle.awk_world.specs.definitions.WorldState.{WorldState, FailsNow}
 use Rattle.awk_world.specs.definitions.Writes.{GoesOn}
 use Rattle.awk_world.specs.definitions.Openings.{is_flushed}
@@ -8,6 +8,7 @@ use Rattle.awk_streams.specs.declared.named.NamedStream.{NamedStream}
 use Rattle.awk_streams.specs.definitions.Streams.{StreamsView, AreOpen, AreSound, number_of, held_of}
 use Rattle.awk_streams.specs.definitions.Flushes.{is_standard_output, is_standard_error, is_output_called, held_unless, emptied, AreBringingTo}
 use Rattle.awk_streams.specs.support.Brings.{BringsHeld}
+use Rattle.awk_streams.specs.definitions.Outputs.{FailsWith}
 
 -- the outputs of such numbers were flushed, or that failed
 pub record BringsSome (among : ℕ → Bool) (before : WorldState) (old : StreamsView) (result : Result (Unit {0}) StreamFault) (after : WorldState) (new : StreamsView) : Type 0 where
@@ -15,7 +16,7 @@ pub record BringsSome (among : ℕ → Bool) (before : WorldState) (old : Stream
   pub only : GoesOn (AreBringingTo among) before.log after.log
   pub flushed : OnOk result ((id : ℕ) → among id ≡ true → is_flushed id after.log ≡ true)
   pub stays : OnOk result ((id : ℕ) → is_flushed id before.log ≡ true → is_flushed id after.log ≡ true)
-  pub fails : OnErr result (FailsNow before after)
+  pub fails : IfErr result (λ fault. FailsWith fault before after)
 
 pub record BringsSomeTo (logged : Type 0) (among : ℕ → Bool) (before : WorldState) (old : StreamsView) (result : Result (Unit {0}) StreamFault) (after : WorldState) (new : StreamsView) : Type 0 where
   pub open_as : AreOpen after new

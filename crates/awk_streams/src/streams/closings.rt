@@ -1,7 +1,7 @@
 // Closings, and the end of a run.
 ghost use Rattle.std.specs.Prelude.{◌≡◌, ◌<◌, ◌≤◌, List, ℕ, ℤ, [], length, None, IsTrue, IfErr, OnOk, OnErr, pos, negsuc, if◌then◌else◌};
 ghost use Rattle.awk_world.specs.definitions.WorldState.{FailsNow};
-ghost use Rattle.awk_streams.specs.definitions.Outputs.{IsOutputFault};
+ghost use Rattle.awk_streams.specs.definitions.Outputs.{IsOutputFault, FailsWith};
 ghost use Rattle.awk_streams.specs.definitions.Streams.{AreOpen, AreSound, held_of, name_of};
 ghost use Rattle.awk_streams.specs.definitions.Commands.{ClosesStream, ClosesEach, ClosesText, BringsEach, Finishes, names_called, all_names};
 ghost use Rattle.awk_streams.specs.definitions.Streams.{all_unheld};
@@ -35,7 +35,7 @@ impl Streams {
         ensures open { AreOpen (W.state world.new) self.new }
         ensures sound { W.is_logged → AreSound (W.state world.new) self.new }
         ensures told { W.is_logged → ClosesText text.now (W.state world.old) self.old result (W.state world.new) self.new }
-        ensures fails { W.is_logged → OnErr result (FailsNow (W.state world.old) (W.state world.new)) }
+        ensures fails { W.is_logged → IfErr result (λ fault. FailsWith fault (W.state world.old) (W.state world.new)) }
     {
         if find_called(&self.named, text).is_none() {
             return Ok(-1);

@@ -1,7 +1,7 @@
 // Runs of commands.
 ghost use Rattle.std.specs.Prelude.{◌≡◌, IfErr, OnErr};
 ghost use Rattle.awk_world.specs.definitions.WorldState.{FailsNow};
-ghost use Rattle.awk_streams.specs.definitions.Outputs.{IsOutputFault};
+ghost use Rattle.awk_streams.specs.definitions.Outputs.{IsOutputFault, FailsWith};
 ghost use Rattle.awk_streams.specs.definitions.Streams.{AreOpen, AreSound};
 ghost use Rattle.awk_streams.specs.definitions.Commands.{RunsCommand};
 
@@ -22,7 +22,7 @@ impl Streams {
         ensures open { AreOpen (W.state world.new) self.new }
         ensures sound { W.is_logged → AreSound (W.state world.new) self.new }
         ensures told { W.is_logged → RunsCommand command.now (W.state world.old) self.old result (W.state world.new) self.new }
-        ensures fails { W.is_logged → OnErr result (FailsNow (W.state world.old) (W.state world.new)) }
+        ensures fails { W.is_logged → IfErr result (λ fault. FailsWith fault (W.state world.old) (W.state world.new)) }
     {
         self.bring(world)?;
         run_answer(world.run(command))

@@ -1,7 +1,7 @@
 // Flushes that a program asks for: of all outputs, and of those of a text.
 ghost use Rattle.std.specs.Prelude.{◌≡◌, ◌<◌, [], length, IfOk, IfErr, OnOk, OnErr, slice_get};
 ghost use Rattle.awk_world.specs.definitions.WorldState.{FailsNow};
-ghost use Rattle.awk_streams.specs.definitions.Outputs.{IsOutputFault};
+ghost use Rattle.awk_streams.specs.definitions.Outputs.{IsOutputFault, FailsWith};
 ghost use Rattle.awk_streams.specs.definitions.Streams.{AreOpen, AreSound};
 ghost use Rattle.awk_streams.specs.definitions.Flushes.{FlushesAll, FlushesText, has_output_called as has_output_called_so, is_standard_number};
 ghost use Rattle.awk_streams.specs.definitions.Flushes.{is_number_among, all_emptied, without_held};
@@ -34,7 +34,7 @@ impl Streams {
         ensures open { AreOpen (W.state world.new) self.new }
         ensures sound { W.is_logged → AreSound (W.state world.new) self.new }
         ensures told { W.is_logged → FlushesAll (W.state world.old) self.old result (W.state world.new) self.new }
-        ensures fails { W.is_logged → OnErr result (FailsNow (W.state world.old) (W.state world.new)) }
+        ensures fails { W.is_logged → IfErr result (λ fault. FailsWith fault (W.state world.old) (W.state world.new)) }
     {
         self.bring(world)
     }
@@ -54,7 +54,7 @@ impl Streams {
         ensures open { AreOpen (W.state world.new) self.new }
         ensures sound { W.is_logged → AreSound (W.state world.new) self.new }
         ensures told { W.is_logged → FlushesText text.now (W.state world.old) self.old result (W.state world.new) self.new }
-        ensures fails { W.is_logged → OnErr result (FailsNow (W.state world.old) (W.state world.new)) }
+        ensures fails { W.is_logged → IfErr result (λ fault. FailsWith fault (W.state world.old) (W.state world.new)) }
     {
         let is_open = self.has_output_called(text);
         self.bring_standard(world, text)?;

@@ -4,7 +4,7 @@ ghost use Rattle.std.specs.List.{position};
 ghost use Rattle.awk_world.specs.declared.world.OutputKind.TheVariants.{Command as OutputCommand};
 ghost use Rattle.awk_world.specs.declared.world.Mode.TheVariants.{Truncate};
 ghost use Rattle.awk_world.specs.definitions.WorldState.{WorldState, FailsNow};
-ghost use Rattle.awk_streams.specs.definitions.Outputs.{IsOutputFault};
+ghost use Rattle.awk_streams.specs.definitions.Outputs.{IsOutputFault, FailsWith};
 ghost use Rattle.awk_streams.specs.definitions.Streams.{AreOpen, AreSound, IsTarget};
 ghost use Rattle.awk_streams.specs.definitions.NamedOutputs.{OpensOutput, Prints};
 ghost use Rattle.awk_streams.specs.support.Places.{is_named_output};
@@ -68,7 +68,7 @@ impl Streams {
         ensures open { AreOpen (W.state world.new) self.new }
         ensures sound { W.is_logged → AreSound (W.state world.new) self.new }
         ensures told { W.is_logged → Prints target bytes.now (W.state world.old) self.old result (W.state world.new) self.new }
-        ensures fails { W.is_logged → OnErr result (FailsNow (W.state world.old) (W.state world.new)) }
+        ensures fails { W.is_logged → IfErr result (λ fault. FailsWith fault (W.state world.old) (W.state world.new)) }
     {
         match target {
             Target::StandardOutput => self.output.print(world, STANDARD_OUTPUT, bytes),

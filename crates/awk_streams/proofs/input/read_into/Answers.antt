@@ -1,5 +1,6 @@
-use Rattle.std.proofs.Common.{Some, Ok}
-use Rattle.awk_world.specs.definitions.Log.{Broke, reading}
+use Rattle.awk_world.specs.declared.world.WorldFault.TheVariants.{Memory}
+use Rattle.std.proofs.Common.{Ok, None}
+use Rattle.awk_world.specs.definitions.Log.{Broke, Did, reading, DidNot}
 use Rattle.awk_streams.proofs.GrowsLemmas.{logs_grow}
 use Rattle.awk_streams.proofs.input.read_into.Goals as goal
 
@@ -13,4 +14,7 @@ pub returns-in_ok-feed-in-Ok-clause-grows : goal.returns-in_ok-feed-in-Ok-clause
 returns-in_ok-feed-in-Ok-clause-grows g c = λ t. logs_grow (reading c.args.id (Ok c.in-Ok.n) c.read.new.into) (g.W.World.state c.args.world.now) (g.W.World.state c.read.new.self) (c.in-Ok.ensures.logs t)
 
 pub returns-in-Err-Failed-clause-grows : goal.returns-in-Err-Failed-clause-grows
-returns-in-Err-Failed-clause-grows g c = λ t. logs_grow (Some (Broke c.args.id)) (g.W.World.state c.args.world.now) (g.W.World.state c.read.new.self) (rw c.in-Err-Failed.field-0-is at (c.in-Err-Failed.ensures.logs t))
+returns-in-Err-Failed-clause-grows g c = λ t. logs_grow (Did (Broke c.args.id)) (g.W.World.state c.args.world.now) (g.W.World.state c.read.new.self) (rw c.in-Err-Failed.field-0-is at (c.in-Err-Failed.ensures.logs t))
+
+pub returns-in-Err-Memory-clause-grows : goal.returns-in-Err-Memory-clause-grows
+returns-in-Err-Memory-clause-grows g c = λ t. logs_grow (DidNot None Memory) (g.W.World.state c.args.world.now) (g.W.World.state c.read.new.self) (rw c.in-Err-Memory.field-0-is at (c.in-Err-Memory.ensures.logs t))

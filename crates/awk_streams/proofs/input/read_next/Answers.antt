@@ -1,11 +1,11 @@
-use Rattle.std.proofs.Common.{◌≡◌, sym, ap, subst, Result, ◌∙◌, rules, Ok, Err}
+use Rattle.std.proofs.Common.{◌≡◌, sym, ap, subst, Result, ◌∙◌, rules, Ok, Err, refl, inl}
 use Rattle.awk_record.specs.Buffer.{Pending}
 use Rattle.awk_record.specs.declared.buffer.Step.{Step}
 use Rattle.awk_record.specs.declared.buffer.Step.TheVariants.{NeedMore}
 use Rattle.awk_record.specs.declared.buffer_fault.BufferFault.{BufferFault}
 use Rattle.awk_streams.specs.support.Pulls.{Brings, Pulls}
 use Rattle.awk_streams.proofs.InputLemmas.{Reaches-more, ok_err, step_ending, pulls_lost}
-use Rattle.awk_streams.proofs.GrowsLemmas.{Grows-then, not_failing, may_fail_later}
+use Rattle.awk_streams.proofs.GrowsLemmas.{Grows-then, not_failing, may_fail_later, Grows-self}
 use Rattle.awk_streams.proofs.input.read_next.Goals as goal
 
 pub loop-step-preserved : goal.loop-step-preserved
@@ -65,3 +65,6 @@ returns-in_err-read_more-clause-grows g c = λ t. Grows-then (c.loop-step.invari
 
 pub returns-in_err-read_more-clause-failure : goal.returns-in_err-read_more-clause-failure
 returns-in_err-read_more-clause-failure g c = λ t memory. may_fail_later (g.W.World.state c.args.world.now) (g.W.World.state c.loop-step.world) (g.W.World.state c.read_more.new.world) (c.loop-step.invariant.no_failure t) (c.in_err-read_more.ensures.failure t)
+
+pub loop-step-init : goal.loop-step-init
+loop-step-init g c = record { same_open = λ j. refl; reaches = λ t. inl (refl, refl); no_failure = λ t. refl; grows = λ t. Grows-self (g.W.World.state c.args.world.now) }

@@ -14,7 +14,7 @@ pub record SoFar (same reached failed grown : Type 0) : Type 0 where
 abbrev pub invariant-loop-step : goal.invariant-loop-step
 invariant-loop-step g l = let w = g.W.World in SoFar (SameOpen (w.state l.fn.world) (w.state l.world))
     (w.is_logged → Reaches l.id l.separator l.fn.buffer (w.state l.fn.world).log l.buffer (w.state l.world).log)
-    (w.is_logged → (w.state l.world).first_failure ≡ (w.state l.fn.world).first_failure)
+    (w.is_logged → (w.state l.world).failures ≡ (w.state l.fn.world).failures)
     (w.is_logged → Grows (w.state l.fn.world) (w.state l.world))
 
 abbrev pub decreases-loop-step : goal.decreases-loop-step

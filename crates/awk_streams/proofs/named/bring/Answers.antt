@@ -78,7 +78,7 @@ pub returns-in_err-flush-clause-fails : goal.returns-in_err-flush-clause-fails
 returns-in_err-flush-clause-fails g c =
     let w = g.W.World in
     let p = err_from_is_err_and c.from_residual.result c.from_residual.ensures.1 in
-    rw (p.1)
+    rw (p.1, p.2)
     (λ t. flush_fails (w.state c.args.world.now) (w.state c.loop-stream.world) (w.state c.flush.new.world) (get_or c.loop-stream.named c.loop-stream.stream-index c.stream-item.result) c.in_err-flush.field-0.0 (c.loop-stream.invariant.no_failure t)
     (c.in_err-flush.ensures.told t))
 

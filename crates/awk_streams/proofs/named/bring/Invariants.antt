@@ -19,4 +19,4 @@ invariant-loop-stream g l = let w = g.W.World in SoFar (SameOpen (w.state l.fn.w
     (AreEmpty (take l.stream-index l.named))
     (w.is_logged → AreApart l.fn.named → AreSoundNamed (w.state l.fn.world).log l.fn.named → BringsHeld (w.state l.fn.world) (held_in l.fn.named) (Ok tt) (w.state l.world) (held_in l.named))
     (w.is_logged → AreFlushedBut (held_in l.fn.named) (w.state l.fn.world).log → AreFlushedBut (held_in (drop l.stream-index l.named)) (w.state l.world).log)
-    (w.is_logged → (w.state l.world).first_failure ≡ (w.state l.fn.world).first_failure)
+    (w.is_logged → (w.state l.world).failures ≡ (w.state l.fn.world).failures)

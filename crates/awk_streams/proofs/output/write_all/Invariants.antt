@@ -15,7 +15,7 @@ abbrev pub invariant-loop-done : goal.invariant-loop-done
 invariant-loop-done g l = let w = g.W.World in SoFar (l.done ≤ length l.bytes)
     (SameOpen (w.state l.fn.world) (w.state l.world))
     (w.is_logged → GoesOn (Writes l.id (take l.done l.bytes)) (w.state l.fn.world).log (w.state l.world).log)
-    (w.is_logged → (w.state l.world).first_failure ≡ (w.state l.fn.world).first_failure)
+    (w.is_logged → (w.state l.world).failures ≡ (w.state l.fn.world).failures)
     (w.is_logged → Grows (w.state l.fn.world) (w.state l.world))
 
 abbrev pub decreases-loop-done : goal.decreases-loop-done

@@ -1,3 +1,4 @@
+use Rattle.std.proofs.lemmas.Result.{err_from_is_err_and}
 use Rattle.std.proofs.Common.{◌≡◌, [], ◌∷◌, ◌++◌, Some, None, refl, ap, ◌∙◌}
 use Rattle.awk_world.specs.definitions.Log.{OpenedInput}
 use Rattle.awk_world.proofs.Exist.{opens_input-self}
@@ -5,7 +6,7 @@ use Rattle.awk_streams.specs.definitions.Streams.{StreamsView}
 use Rattle.awk_streams.specs.support.Asks.{new_input, is_input_open}
 use Rattle.awk_streams.specs.support.Places.{is_named_input}
 use Rattle.awk_streams.proofs.NamesLemmas.{not_found, is_found}
-use Rattle.awk_streams.proofs.OpenLemmas.{asked_open, asked_sound, input_items, grants_input, new_input_sound, no_input, refused_open, refused_sound, refuses_input, empty_pending}
+use Rattle.awk_streams.proofs.OpenLemmas.{finds_none, world_finds_none, asked_open, asked_sound, input_items, grants_input, new_input_sound, no_input, refused_open, refused_sound, refuses_input, empty_pending}
 use Rattle.awk_streams.proofs.streams.Streams.ask_input.Goals as goal
 
 pub returns-in-Ok-clause-is_open : goal.returns-in-Ok-clause-is_open
@@ -55,3 +56,21 @@ returns-clause-open g c =
     let w = g.W.World in
     let s : StreamsView = record { main = c.self.inside.main; output = c.self.inside.output; error = c.self.inside.error; named = c.self.inside.named.items } in
     refused_open (w.state c.args.world.now) (w.state c.open_input.new.self) c.args.self.now s c.reserve.new.self.items c.self.view_is c.in_ok-reserve.ensures.items c.requires.open c.in-Err-Memory.ensures.err
+
+pub returns-in_err-reserve-clause-told : goal.returns-in_err-reserve-clause-told
+returns-in_err-reserve-clause-told g c = λ t.
+    let s : StreamsView = record { main = c.self.inside.main; output = c.self.inside.output; error = c.self.inside.error; named = c.self.inside.named.items } in
+    let p = err_from_is_err_and c.from_residual.result c.from_residual.ensures.1 in
+    rw (p.1, p.2) (finds_none (g.W.World.state c.args.world.now) c.args.self.now s c.reserve.new.self.items c.self.view_is c.in_err-reserve.ensures.items)
+
+pub returns-in_err-name_copy-clause-told : goal.returns-in_err-name_copy-clause-told
+returns-in_err-name_copy-clause-told g c = λ t.
+    let s : StreamsView = record { main = c.self.inside.main; output = c.self.inside.output; error = c.self.inside.error; named = c.self.inside.named.items } in
+    let p = err_from_is_err_and c.from_residual-in_err-name_copy.result c.from_residual-in_err-name_copy.ensures.1 in
+    rw (p.1, p.2) (finds_none (g.W.World.state c.args.world.now) c.args.self.now s c.reserve.new.self.items c.self.view_is c.in_ok-reserve.ensures.items)
+
+pub returns-clause-told : goal.returns-clause-told
+returns-clause-told g c = λ t.
+    let w = g.W.World in
+    let s : StreamsView = record { main = c.self.inside.main; output = c.self.inside.output; error = c.self.inside.error; named = c.self.inside.named.items } in
+    world_finds_none (w.state c.args.world.now) (w.state c.open_input.new.self) c.args.self.now s c.reserve.new.self.items c.self.view_is c.in_ok-reserve.ensures.items c.in-Err-Memory.ensures.err (rw c.in-Err-Memory.field-0-is at (c.in-Err-Memory.ensures.logs t))

@@ -1,9 +1,11 @@
-use Rattle.std.proofs.Common.{◌≡◌, [], ◌∷◌, ◌++◌, Some, None, refl, ap, ◌∙◌}
+use Rattle.std.proofs.lemmas.Result.{err_from_is_err_and}
+use Rattle.std.proofs.Common.{rules, ◌≡◌, [], ◌∷◌, ◌++◌, Some, None, refl, ap, ◌∙◌}
+use Rattle.std.specs.Prelude.{is_some, length}
 use Rattle.awk_world.specs.definitions.Log.{OpenedOutput}
-use Rattle.awk_streams.specs.definitions.Streams.{StreamsView}
+use Rattle.awk_streams.specs.definitions.Streams.{StreamsView, number_of_some}
 use Rattle.awk_streams.specs.support.Asks.{new_output}
 use Rattle.awk_streams.proofs.NamesLemmas.{none_found}
-use Rattle.awk_streams.proofs.OpenLemmas.{asked_open, asked_sound, output_items, grants_output, new_output_sound, no_output, refused_open, refused_sound, refuses_output}
+use Rattle.awk_streams.proofs.OpenLemmas.{stands_last, finds_none, world_finds_none, asked_open, asked_sound, output_items, grants_output, new_output_sound, no_output, refused_open, refused_sound, refuses_output}
 use Rattle.awk_streams.proofs.streams.Streams.ask_output.Goals as goal
 
 pub returns-in-Ok-clause-open : goal.returns-in-Ok-clause-open
@@ -44,3 +46,32 @@ returns-clause-open g c =
     let w = g.W.World in
     let s : StreamsView = record { main = c.self.inside.main; output = c.self.inside.output; error = c.self.inside.error; named = c.self.inside.named.items } in
     refused_open (w.state c.args.world.now) (w.state c.open_output.new.self) c.args.self.now s c.reserve.new.self.items c.self.view_is c.in_ok-reserve.ensures.items c.requires.open c.in-Err-Memory.ensures.err
+
+pub returns-in_err-reserve-clause-told : goal.returns-in_err-reserve-clause-told
+returns-in_err-reserve-clause-told g c = λ t.
+    let s : StreamsView = record { main = c.self.inside.main; output = c.self.inside.output; error = c.self.inside.error; named = c.self.inside.named.items } in
+    let p = err_from_is_err_and c.from_residual.result c.from_residual.ensures.1 in
+    rw (p.1, p.2) (finds_none (g.W.World.state c.args.world.now) c.args.self.now s c.reserve.new.self.items c.self.view_is c.in_err-reserve.ensures.items)
+
+pub returns-in_err-name_copy-clause-told : goal.returns-in_err-name_copy-clause-told
+returns-in_err-name_copy-clause-told g c = λ t.
+    let s : StreamsView = record { main = c.self.inside.main; output = c.self.inside.output; error = c.self.inside.error; named = c.self.inside.named.items } in
+    let p = err_from_is_err_and c.from_residual-in_err-name_copy.result c.from_residual-in_err-name_copy.ensures.1 in
+    rw (p.1, p.2) (finds_none (g.W.World.state c.args.world.now) c.args.self.now s c.reserve.new.self.items c.self.view_is c.in_ok-reserve.ensures.items)
+
+pub returns-in_err-make_room-clause-told : goal.returns-in_err-make_room-clause-told
+returns-in_err-make_room-clause-told g c = λ t.
+    let s : StreamsView = record { main = c.self.inside.main; output = c.self.inside.output; error = c.self.inside.error; named = c.self.inside.named.items } in
+    let p = err_from_is_err_and c.from_residual-in_err-make_room.result c.from_residual-in_err-make_room.ensures.1 in
+    rw (p.1, p.2) (finds_none (g.W.World.state c.args.world.now) c.args.self.now s c.reserve.new.self.items c.self.view_is c.in_ok-reserve.ensures.items)
+
+pub returns-in-Ok-clause-target : goal.returns-in-Ok-clause-target
+returns-in-Ok-clause-target g c =
+    let at : c.len-place.result ≡ length c.reserve.new.self.items = search rules in
+    ap (λ o. is_some (number_of_some o)) (stands_last c.reserve.new.self.items c.add.new.named.items _ c.len-place.result c.add.ensures at)
+
+pub returns-clause-told : goal.returns-clause-told
+returns-clause-told g c = λ t.
+    let w = g.W.World in
+    let s : StreamsView = record { main = c.self.inside.main; output = c.self.inside.output; error = c.self.inside.error; named = c.self.inside.named.items } in
+    world_finds_none (w.state c.args.world.now) (w.state c.open_output.new.self) c.args.self.now s c.reserve.new.self.items c.self.view_is c.in_ok-reserve.ensures.items c.in-Err-Memory.ensures.err (rw c.in-Err-Memory.field-0-is at (c.in-Err-Memory.ensures.logs t))

@@ -6,14 +6,15 @@ use Rattle.awk_streams.specs.declared.named.NamedStream.{NamedStream}
 use Rattle.awk_streams.specs.support.Held.{AreEmpty, HoldsNothing}
 use Rattle.awk_streams.proofs.StreamsLemmas.{but_held_length}
 use Rattle.awk_world.specs.definitions.WorldState.{FailsNow}
-use Rattle.awk_streams.proofs.GrowsLemmas.{fails_later}
+use Rattle.awk_streams.proofs.WritingLemmas.{fails_with_later}
 use Rattle.awk_streams.proofs.BufferedLemmas.{on_err}
 use Rattle.awk_streams.proofs.BringLemmas.{on_ok}
-use Rattle.std.proofs.lemmas.Result.{err_from_is_err_and}
+use Rattle.std.proofs.lemmas.Result.{err_from_is_err_and, IfErr-weaker}
 use Rattle.awk_streams.specs.definitions.Streams.{StreamsView, AreOpen, AreOpenNamed, AreApart, AreSoundNamed, AreSound, held_of, held_in, all_unheld}
 use Rattle.awk_streams.specs.support.Brings.{BringsHeld, AreFlushedBut}
 use Rattle.awk_streams.proofs.ViewLemmas.{bring_one, bring_two, bring_three, flushed_three}
 use Rattle.awk_streams.proofs.streams.Streams.bring.Goals as goal
+use Rattle.awk_streams.specs.definitions.Outputs.{FailsWith}
 
 pub returns-in_err-flush-clause-open : goal.returns-in_err-flush-clause-open
 returns-in_err-flush-clause-open g c =
@@ -129,5 +130,5 @@ returns-clause-flushed g c =
 pub returns-clause-fails : goal.returns-clause-fails
 returns-clause-fails g c =
     let w = g.W.World in
-    on_err c.bring.result (λ (fails : w.is_logged → FailsNow (w.state c.flush-2.new.world) (w.state c.bring.new.world)) (t : w.is_logged).
-    fails_later (w.state c.args.world.now) (w.state c.flush-2.new.world) (w.state c.bring.new.world) ((c.in_ok-flush-2.ensures.told t).no_failure ∙ (c.in_ok-flush.ensures.told t).no_failure) (fails t)) c.bring.ensures.fails
+    IfErr-weaker c.bring.result _ _ (λ e (fails : w.is_logged → FailsWith e (w.state c.flush-2.new.world) (w.state c.bring.new.world)) (t : w.is_logged).
+    fails_with_later e (w.state c.args.world.now) (w.state c.flush-2.new.world) (w.state c.bring.new.world) ((c.in_ok-flush-2.ensures.told t).no_failure ∙ (c.in_ok-flush.ensures.told t).no_failure) (fails t)) c.bring.ensures.fails

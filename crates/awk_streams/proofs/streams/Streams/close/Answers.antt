@@ -31,4 +31,4 @@ returns-in_err-bring-clause-told g c = λ t.
 pub returns-in_err-bring-clause-fails : goal.returns-in_err-bring-clause-fails
 returns-in_err-bring-clause-fails g c = λ t.
     let p = err_from_is_err_and c.from_residual.result c.from_residual.ensures.1 in
-    rw p.1 (c.in_err-bring.ensures.fails t)
+    rw (p.1, p.2) (c.in_err-bring.ensures.fails t)

@@ -28,11 +28,11 @@ returns-clause-told g c = λ t.
 pub returns-in_err-bring_standard-clause-fails : goal.returns-in_err-bring_standard-clause-fails
 returns-in_err-bring_standard-clause-fails g c = λ t.
     let p = err_from_is_err_and c.from_residual.result c.from_residual.ensures.1 in
-    rw p.1 (c.in_err-bring_standard.ensures.told t).fails
+    rw (p.1, p.2) (c.in_err-bring_standard.ensures.told t).fails
 
 pub returns-in_err-bring_called-clause-fails : goal.returns-in_err-bring_called-clause-fails
 returns-in_err-bring_called-clause-fails g c = λ t.
     let w = g.W.World in
     let p = err_from_is_err_and c.from_residual-in_err-bring_called.result c.from_residual-in_err-bring_called.ensures.1 in
-    rw p.1
+    rw (p.1, p.2)
     (text_some c.args.text.now (w.state c.args.world.now) (w.state c.bring_standard.new.world) (w.state c.bring_called.new.world) c.args.self.now c.bring_standard.new.self c.bring_called.new.self c.in_ok-bring_standard.field-0 (Err c.in_err-bring_called.field-0.0) c.in_ok-bring_standard.ensures.same (c.in_ok-bring_standard.ensures.told t) (c.in_err-bring_called.ensures.told t)).fails

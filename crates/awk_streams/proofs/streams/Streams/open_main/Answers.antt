@@ -1,4 +1,5 @@
-use Rattle.std.proofs.Common.{refl}
+use Rattle.std.proofs.Common.{None, refl}
+use Rattle.awk_world.specs.declared.world.WorldFault.TheVariants.{Memory}
 use Rattle.awk_streams.specs.definitions.Streams.{StreamsView}
 use Rattle.awk_streams.proofs.ViewLemmas.{keeps_open}
 use Rattle.awk_streams.proofs.GrowsLemmas.{fails_now}
@@ -57,4 +58,4 @@ returns-in-Err-Memory-clause-told g c = λ t.
 pub returns-in-Err-Memory-clause-memory : goal.returns-in-Err-Memory-clause-memory
 returns-in-Err-Memory-clause-memory g c = λ t memory.
     let w = g.W.World in
-    fails_now (w.state c.args.world.now) (w.state c.open_input.new.self) (rw c.in-Err-Memory.field-0-is at (c.in-Err-Memory.ensures.logs t))
+    fails_now None Memory (w.state c.args.world.now) (w.state c.open_input.new.self) (rw c.in-Err-Memory.field-0-is at (c.in-Err-Memory.ensures.logs t))

@@ -1,3 +1,4 @@
+use Rattle.awk_streams.proofs.WritingLemmas.{writing_fails}
 use Rattle.awk_streams.specs.definitions.Streams.{StreamsView}
 use Rattle.awk_streams.proofs.PrintLemmas.{print_output, print_error, print_named, print_needs}
 use Rattle.awk_streams.proofs.streams.Streams.print.Goals as goal
@@ -83,10 +84,10 @@ returns-in-Named-clause-told g c =
 -- a failure is the world's
 
 pub returns-in-StandardOutput-clause-fails : goal.returns-in-StandardOutput-clause-fails
-returns-in-StandardOutput-clause-fails g c = λ t. (c.print.ensures.told t).writes.fails
+returns-in-StandardOutput-clause-fails g c = λ t. let w = g.W.World in writing_fails _ _ (w.state c.args.world.now) (w.state c.print.new.world) c.print.result (c.print.ensures.told t).writes
 
 pub returns-in-StandardError-clause-fails : goal.returns-in-StandardError-clause-fails
-returns-in-StandardError-clause-fails g c = λ t. (c.print-in-StandardError.ensures.told t).writes.fails
+returns-in-StandardError-clause-fails g c = λ t. let w = g.W.World in writing_fails _ _ (w.state c.args.world.now) (w.state c.print-in-StandardError.new.world) c.print-in-StandardError.result (c.print-in-StandardError.ensures.told t).writes
 
 pub returns-in-Named-clause-fails : goal.returns-in-Named-clause-fails
-returns-in-Named-clause-fails g c = λ t. (c.print-in-Named.ensures.told t).writes.fails
+returns-in-Named-clause-fails g c = λ t. let w = g.W.World in writing_fails _ _ (w.state c.args.world.now) (w.state c.print-in-Named.new.world) c.print-in-Named.result (c.print-in-Named.ensures.told t).writes

@@ -1,5 +1,5 @@
-use Rattle.std.proofs.Common.{refl}
+use Rattle.std.proofs.Common.{rules}
 use Rattle.awk_world.proofs.script_world.ScriptWorld.new.Goals as goal
 
-pub returns-clause-first_failure : goal.returns-clause-first_failure
-returns-clause-first_failure c = refl
+pub returns-clause-failures : goal.returns-clause-failures
+returns-clause-failures c = search rules
