@@ -1,5 +1,5 @@
 // A world whose calls are noted in a journal.
-ghost use Rattle.std.specs.Prelude.{◌≡◌, ℕ, false, [], None};
+ghost use Rattle.std.specs.Prelude.{◌≡◌, ℕ, false, []};
 ghost use Rattle.awk_world.specs.WorldState.{WorldState};
 ghost use Rattle.awk_journal.specs.Adds.{Adds, with_log};
 
@@ -17,7 +17,7 @@ pub trait Beginning {
 }
 
 impl Beginning for Brand {
-    ghost state = { with_log (λ _. false) [] None };
+    ghost state = { with_log (λ _. false) [] [] };
 
     ghost place = { 0 };
 }
@@ -26,7 +26,7 @@ impl Beginning for Brand {
 pub struct AtStart;
 
 impl Beginning for AtStart {
-    ghost state = { with_log (λ _. false) [] None };
+    ghost state = { with_log (λ _. false) [] [] };
 
     ghost place = { 0 };
 }
@@ -41,17 +41,17 @@ pub struct Logged<W: World, B: Beginning> {
     journal: Journal,
     since: PhantomData<B>,
     ghost placed: { W.place world ≡ B.place },
-    ghost tied: { W.is_logged → Adds B.state journal.log journal.first_failure (W.state world) },
+    ghost tied: { W.is_logged → Adds B.state journal.log journal.failures (W.state world) },
 }
 
 impl<W: World, B: Beginning> Logged<W, B> {
     /// Begins a log of a world.
     pub fn new(world: W) -> Self
         requires placed { W.place world ≡ B.place }
-        requires tied { W.is_logged → Adds B.state [] None (W.state world) }
+        requires tied { W.is_logged → Adds B.state [] [] (W.state world) }
         ensures world { result.world ≡ world }
         ensures log { result.journal.log ≡ [] }
-        ensures first_failure { result.journal.first_failure ≡ None }
+        ensures failures { result.journal.failures ≡ [] }
     {
         Logged {
             world,
@@ -76,7 +76,7 @@ impl<W: World, B: Beginning> Logged<W, B> {
 impl<W: World, B: Beginning> World for Logged<W, B> {
     ghost is_logged = { Unit {0} };
 
-    ghost state = { λ logged. with_log (W.state logged.world).is_open logged.journal.log logged.journal.first_failure };
+    ghost state = { λ logged. with_log (W.state logged.world).is_open logged.journal.log logged.journal.failures };
 
     ghost place = { λ logged. W.place logged.world };
 

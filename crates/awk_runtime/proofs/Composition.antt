@@ -1,8 +1,11 @@
 -- How what the parts of the code do is put together.
-use Rattle.std.proofs.Common.{◌≡◌, inl, ◌≤◌, ℕ, List, [], ◌++◌, None, Result, Ok, Err, refl, sym, ap, ◌∙◌, subst, arith, append_assoc, append-nil}
+use Rattle.std.proofs.Common.{◌≡◌, ◌⊎◌, inl, inr, ◌≤◌, ℕ, List, [], ◌∷◌, ◌++◌, length, Result, Ok, Err, refl, sym, ap, ◌∙◌, subst, arith, append_assoc, append-nil}
 use Rattle.awk_world.specs.declared.world.InputKind.{InputKind}
 use Rattle.awk_world.specs.declared.world.OutputKind.{OutputKind}
-use Rattle.awk_streams.specs.WorldState.{WorldState}
+use Rattle.awk_world.specs.declared.failure.Failure.{Failure}
+use Rattle.awk_world.specs.declared.world.WorldFault.{WorldFault}
+use Rattle.awk_world.specs.declared.world.WorldFault.TheVariants.{Memory}
+use Rattle.awk_streams.specs.WorldState.{WorldState, FailsNow, MayFailNow}
 use Rattle.awk_streams.specs.Oracle.{Oracle}
 use Rattle.awk_streams.specs.Streams.{StreamsView, AreAs, printed_openings}
 use Rattle.awk_streams.proofs.GrowsLemmas.{Grows-self, Grows-then}
@@ -14,8 +17,17 @@ use Rattle.awk_semantics.specs.Meaning.{first_outputs, outputs_after, requests_f
 use Rattle.awk_semantics.specs.Order.{Stage, MeetsAll, first_stage}
 use Rattle.awk_semantics.specs.Results.{Sort, WantOfMemory, FailedWrite, OfLanguage, sort_of, YieldsBy, Yields}
 use Rattle.awk_runtime.specs.declared.runtime.Runtime.{Runtime}
-use Rattle.awk_runtime.specs.support.Simulation.{stage_of, OwnRelation, StreamsRelation, StateRelation, IsReady, FailureRelation, ResultRelationBy, ResultRelation, SimulatesLogged, Simulates, Changes}
+use Rattle.awk_runtime.specs.support.Simulation.{stage_of, OwnRelation, StreamsRelation, StateRelation, IsReady, FailureRelation, FailedLast, ResultRelationBy, ResultRelation, SimulatesLogged, Simulates, Changes}
 use Rattle.awk_runtime.proofs.Effects.{begins-longer, begins_still}
+
+-- a failure of a world that had met none before
+
+pub fails_last : {what : WorldFault} (before after : WorldState) → before.failures ≡ [] → FailsNow what before after → FailedLast what after
+fails_last {what = what} before after clear (output, fails) = (output, fails ∙ ap (λ (fs : List Failure). record { at = length after.log; output = output; what = what } ∷ fs) clear)
+
+pub may_fail_last : (before after : WorldState) → before.failures ≡ [] → MayFailNow before after → (after.failures ≡ []) ⊎ FailedLast Memory after
+may_fail_last before after clear (inl same) = inl (same ∙ clear)
+may_fail_last before after clear (inr fails) = inr (fails_last before after clear fails)
 
 -- a failure behind what was done, which left nothing out
 pub cut_off : {failure : Type 0} (oracle : Oracle) (streams : StreamsView) (k : WorldState) (done others : List Effect) (last : Stage) → last.log ≡ k.log → MeetsAll oracle (requests_from first_outputs done) first_stage last → printed_openings k streams ≡ outputs_after done → failure → FailureRelation oracle failure streams k (done ++ others)
@@ -54,7 +66,7 @@ failure_longer {streams = streams} {k = k} past xs ys h = record {
 }
 
 -- want of memory where all is as the meaning has it
-pub unfailed : {failure : Type 0} (oracle : Oracle) (m new : Runtime) (k : WorldState) (s : State) (past more : List Effect) → new.streams ≡ m.streams → StateRelation oracle m k s past → ((k.first_failure ≡ None) → failure) → FailureRelation oracle failure new.streams k (past ++ more)
+pub unfailed : {failure : Type 0} (oracle : Oracle) (m new : Runtime) (k : WorldState) (s : State) (past more : List Effect) → new.streams ≡ m.streams → StateRelation oracle m k s past → ((k.failures ≡ []) → failure) → FailureRelation oracle failure new.streams k (past ++ more)
 unfailed oracle m new k s past more same stands failure = cut_off oracle new.streams k past more (stage_of k.log m.streams) refl stands.streams.turn (ap (printed_openings k) same ∙ stands.streams.printed) (failure stands.clear)
 
 -- what lies outside the code's own part is the same

@@ -27,7 +27,7 @@ use Rattle.awk_kinds.specs.declared.special.Special.TheVariants.{Rs}
 use Rattle.awk_kinds.specs.Variables.{value_of, name_of}
 use Rattle.awk_runtime.specs.declared.runtime.Runtime.{Runtime}
 use Rattle.awk_runtime.specs.support.Simulation.{OwnRelation, main_number, stage_of, StreamsRelation, StateRelation, FailureRelation, ResultRelation, SimulatesLogged, Simulates, IsReady, Follows, Beside, halted}
-use Rattle.awk_runtime.proofs.Composition.{cut_off, cut_behind}
+use Rattle.awk_runtime.proofs.Composition.{may_fail_last, cut_off, cut_behind}
 use Rattle.awk_runtime.proofs.Effects.{turn_between, turn_requested}
 use Rattle.awk_runtime.proofs.Steps.{beside_holds}
 use Rattle.awk_runtime.proofs.Turns.{own_at, outputs_requested, stage_same}
@@ -123,7 +123,7 @@ opens_logged kind path (Err InputNotReadable) {old = old} {new = new} {before = 
 opens_logged kind path (Err Memory) {old = old} {new = new} {before = before} {after = after} beside none same told fault = record {
   grows = told.grows;
   means = λ oracle s past consistent stands.
-      cut_off oracle new.streams after past (open_main kind path s).effects (stage_of before.log old.streams) (sym told.adds) stands.streams.turn (told.printed ∙ stands.streams.printed) (told.failure stands.clear);
+      cut_off oracle new.streams after past (open_main kind path s).effects (stage_of before.log old.streams) (sym told.adds) stands.streams.turn (told.printed ∙ stands.streams.printed) (may_fail_last before after stands.clear told.failure);
 }
 opens_logged kind path (Err WriteFailed) beside none same told fault = absurd (elim fault [ inl e ↦ (cc) | inr e ↦ (cc) ])
 opens_logged kind path (Err OutputNotOpened) beside none same told fault = absurd (elim fault [ inl e ↦ (cc) | inr e ↦ (cc) ])
@@ -236,28 +236,28 @@ unfolding take_record
 takes_as m s h = ap (λ v. taken_of s.main (str_of v) s) (h.specials Rs)
 
 asks_comes : (separator : List ℕ) (r : Result (Option (List ℕ)) StreamFault) (oracle : Oracle) {old new : Runtime} {before after : WorldState} (s : State) (past : List Effect) (whole : Source) → Beside old new → IsSameMain old.streams.main new.streams.main → r ≢ Err Memory
-    → (after.first_failure ≡ before.first_failure) → AsksMain separator before old.streams r after new.streams → IsConsistent oracle after.log → StateRelation oracle old before s past → s.main ≡ Some whole
+    → (after.failures ≡ before.failures) → AsksMain separator before old.streams r after new.streams → IsConsistent oracle after.log → StateRelation oracle old before s past → s.main ≡ Some whole
     → ResultRelation oracle new after (halted r) (taken_of s.main separator s) past
-asks_comes separator r oracle {old = old} {new = new} {before = before} {after = after} s past whole beside same_main kept first_failure told consistent stands is =
+asks_comes separator r oracle {old = old} {new = new} {before = before} {after = after} s past whole beside same_main kept no_failure told consistent stands is =
     let rest = subst (λ o. IsMainRest oracle before.log old.streams.main o) is stands.streams.are.main in
     let gives = told.answered kept oracle whole consistent rest in
     let meets = asking_meets oracle separator (outputs_after past) before after old.streams new.streams whole same_main told.same rest told.request in
     subst (λ (o : Option Source). ResultRelation oracle new after (halted r) (taken_of o separator s) past) (sym is)
     (asked_comes (cut_of separator whole.bytes whole.ending) oracle new after r separator whole gives.0 s past gives.1 (record {
-      clear = first_failure ∙ stands.clear;
+      clear = no_failure ∙ stands.clear;
       streams = asked_stands oracle r old.streams new.streams before after s separator whole gives.0 past told gives.2 meets stands.streams;
       holds = at_main new s s.openings _ (beside_holds beside stands.holds);
     }))
 
 asks_logged : (separator : List ℕ) (r : Result (Option (List ℕ)) StreamFault) {old new : Runtime} {before after : WorldState} → separator ≡ str_of (value_of old.specials (name_of Rs)) → Beside old new → is_some old.streams.main ≡ true → IsSameMain old.streams.main new.streams.main → r ≢ Err Memory
-    → (after.first_failure ≡ before.first_failure) → AsksMain separator before old.streams r after new.streams
+    → (after.failures ≡ before.failures) → AsksMain separator before old.streams r after new.streams
     → SimulatesLogged old before new after (halted r) take_record
-asks_logged separator r {old = old} {new = new} {before = before} {after = after} rs beside there same_main kept first_failure told = record {
+asks_logged separator r {old = old} {new = new} {before = before} {after = after} rs beside there same_main kept no_failure told = record {
   grows = told.grows;
   means = λ oracle s past consistent stands.
       let whole = some_rest oracle before.log old.streams.main s.main there stands.streams.are.main in
       subst (λ (o : Out (Option (List ℕ))). ResultRelation oracle new after (halted r) o past) (ap (λ l. taken_of s.main l s) rs ∙ sym (takes_as old s stands.holds))
-      (asks_comes separator r oracle s past whole.0 beside same_main kept first_failure told consistent stands whole.1);
+      (asks_comes separator r oracle s past whole.0 beside same_main kept no_failure told consistent stands whole.1);
 }
 
 -- what is asked for where some is left
@@ -292,7 +292,7 @@ asks_by separator (Err Memory) {old = old} {new = new} {before = before} {after 
   grows = told.grows;
   means = λ oracle s past consistent stands.
       let whole = some_rest oracle before.log old.streams.main s.main there stands.streams.are.main in
-      asks_cut separator (Err Memory) oracle old new s past whole.0 rs same_main told stands whole.1 (told.failure stands.clear);
+      asks_cut separator (Err Memory) oracle old new s past whole.0 rs same_main told stands whole.1 (may_fail_last before after stands.clear told.failure);
 }
 asks_by separator (Err WriteFailed) rs beside there same_main told unwritten = absurd (unwritten refl)
 asks_by separator (Err InputNotReadable) rs beside there same_main told unwritten = asks_logged separator (Err InputNotReadable) rs beside there same_main (λ (e : Err InputNotReadable ≡ Err Memory). absurd (cc)) told.failure told

@@ -36,7 +36,7 @@ use Rattle.awk_kinds.specs.Variables.{value_of, name_of}
 use Rattle.awk_runtime.specs.declared.runtime.Runtime.{Runtime}
 use Rattle.awk_runtime.specs.support.Simulation.{OwnRelation, main_number, stage_of, StreamsRelation, StateRelation, FailureRelation, ResultRelation, SimulatesLogged, Follows, IsReady, Beside, halted}
 use Rattle.awk_runtime.specs.support.NamedInputs.{answers_of}
-use Rattle.awk_runtime.proofs.Composition.{cut_behind, then_logged, ends_logged}
+use Rattle.awk_runtime.proofs.Composition.{fails_last, may_fail_last, cut_behind, then_logged, ends_logged}
 use Rattle.awk_runtime.proofs.Effects.{turn_requested}
 use Rattle.awk_runtime.proofs.Steps.{beside_holds}
 use Rattle.awk_runtime.proofs.Turns.{own_at, outputs_requested, goes_bringing_if, turn_brought, brought_as, memory_loses, write_loses, as_many, stage_same, stands_same}
@@ -277,15 +277,15 @@ named_as : (kind : InputKind) (name : List ℕ) (m : Runtime) (s : State) (whole
 unfolding take_named
 named_as kind name m s whole h is = ap (λ (o : Option Source). named_taken_of o kind name (str_of (s.variables (name_of Rs))) s) is ∙ ap (λ v. named_taken_of (Some whole) kind name (str_of v) s) (h.specials Rs)
 
-named_logged : (kind : InputKind) (name separator : List ℕ) (r : Result NextNamed StreamFault) {old new : Runtime} {before after : WorldState} → separator ≡ str_of (value_of old.specials (name_of Rs)) → Beside old new → AreOnce new.streams.named → r ≢ Err Memory → (after.first_failure ≡ before.first_failure)
+named_logged : (kind : InputKind) (name separator : List ℕ) (r : Result NextNamed StreamFault) {old new : Runtime} {before after : WorldState} → separator ≡ str_of (value_of old.specials (name_of Rs)) → Beside old new → AreOnce new.streams.named → r ≢ Err Memory → (after.failures ≡ before.failures)
     → AsksNamed kind name separator before old.streams r after new.streams → SimulatesLogged old before new after (answers_of (halted r)) (take_named kind name)
-named_logged kind name separator r {old = old} {new = new} {before = before} {after = after} rs beside once kept first_failure told = record {
+named_logged kind name separator r {old = old} {new = new} {before = before} {after = after} rs beside once kept no_failure told = record {
   grows = told.grows;
   means = λ oracle s past consistent stands.
       let x = told.answered kept oracle s.main s.streams consistent stands.streams.are in
       subst (λ (o : Out Answer). ResultRelation oracle new after (answers_of (halted r)) o past) (ap (λ l. named_taken_of (Some x.whole) kind name l s) rs ∙ sym (named_as kind name old s x.whole stands.holds x.is))
       (named_comes (cut_of separator x.whole.bytes x.whole.ending) oracle new after r kind name separator x.whole x.left s past x.told (record {
-        clear = first_failure ∙ stands.clear;
+        clear = no_failure ∙ stands.clear;
         streams = named_stands oracle kind name separator r old.streams new.streams before after s past told x stands.streams;
         holds = own_at new s s.openings s.output_openings s.outputs s.closings s.runs s.main _ (beside_holds beside stands.holds);
       }) (λ same. kept_rest oracle after.log kind name x.whole new.streams.named s.streams once (subst (λ (l : List ℕ). StandFor oracle after.log new.streams.named (with_rest_of kind name (record { bytes = l; ending = x.whole.ending }) s.streams)) same x.leaves.named) x.is));
@@ -317,13 +317,13 @@ named_cut {failure = failure} kind name separator r oracle old new {before = bef
 named_by : (kind : InputKind) (name separator : List ℕ) (r : Result NextNamed StreamFault) {old new : Runtime} {before after : WorldState} → separator ≡ str_of (value_of old.specials (name_of Rs)) → Beside old new → AreOnce new.streams.named
     → AsksNamed kind name separator before old.streams r after new.streams → SimulatesLogged old before new after (answers_of (halted r)) (take_named kind name)
 named_by kind name separator (Ok x) rs beside once told = named_logged kind name separator (Ok x) rs beside once (λ (e : Ok x ≡ Err Memory). absurd (cc)) told.failure told
-named_by kind name separator (Err Memory) {old = old} {new = new} rs beside once told = record {
+named_by kind name separator (Err Memory) {old = old} {new = new} {before = before} {after = after} rs beside once told = record {
   grows = told.grows;
-  means = λ oracle s past consistent stands. named_cut kind name separator (Err Memory) oracle old new s past rs told stands (told.failure stands.clear);
+  means = λ oracle s past consistent stands. named_cut kind name separator (Err Memory) oracle old new s past rs told stands (may_fail_last before after stands.clear told.failure);
 }
-named_by kind name separator (Err WriteFailed) {old = old} {new = new} rs beside once told = record {
+named_by kind name separator (Err WriteFailed) {old = old} {new = new} {before = before} {after = after} rs beside once told = record {
   grows = told.grows;
-  means = λ oracle s past consistent stands. named_cut kind name separator (Err WriteFailed) oracle old new s past rs told stands (told.failure stands.clear);
+  means = λ oracle s past consistent stands. named_cut kind name separator (Err WriteFailed) oracle old new s past rs told stands (fails_last before after stands.clear told.failure);
 }
 named_by kind name separator (Err InputNotReadable) rs beside once told = named_logged kind name separator (Err InputNotReadable) rs beside once (λ (e : Err InputNotReadable ≡ Err Memory). absurd (cc)) told.failure told
 named_by kind name separator (Err OutputNotOpened) rs beside once told = named_logged kind name separator (Err OutputNotOpened) rs beside once (λ (e : Err OutputNotOpened ≡ Err Memory). absurd (cc)) told.failure told

@@ -35,7 +35,7 @@ use Rattle.awk_kinds.specs.Variables.{value_of, name_of}
 use Rattle.awk_runtime.specs.declared.runtime.Runtime.{Runtime}
 use Rattle.awk_runtime.specs.support.Simulation.{OwnRelation, main_number, stage_of, StreamsRelation, StateRelation, FailureRelation, ResultRelation, SimulatesLogged, Changes, Follows, Beside, SameState, halted}
 use Rattle.awk_runtime.specs.support.Printing.{PrintsTo, OpensTarget, print_at, print_field_at}
-use Rattle.awk_runtime.proofs.Composition.{then_logged, ends_logged, lift_logged, memory_changes}
+use Rattle.awk_runtime.proofs.Composition.{fails_last, may_fail_last, then_logged, ends_logged, lift_logged, memory_changes}
 use Rattle.awk_runtime.proofs.Effects.{turn_between}
 use Rattle.awk_runtime.proofs.Steps.{beside_holds, reads_changes}
 use Rattle.awk_runtime.proofs.Turns.{same_logged, length-with_bytes, outputs_printed}
@@ -96,7 +96,7 @@ print_fails to bytes fault old new {before = before} {after = after} told failed
   last = stage_of after.log new.streams;
   at = refl;
   turn = goes_last oracle (requests_from first_outputs past) first_stage (stage_of before.log old.streams) (stage_of after.log new.streams) stands.streams.turn (writes_go to bytes before after old.streams new.streams (Err fault) told);
-  kept = λ none. absurd (not_marked after.first_failure told.marked none);
+  kept = λ none. absurd (not_marked after.failures told.marked none);
   begins = subst (λ (os : List Opening). Begins (printed_openings after new.streams) os) (as_printed oracle old.streams before s past told.opening bytes stands.streams) told.partly;
   failure = failed;
 }
@@ -104,8 +104,8 @@ print_fails to bytes fault old new {before = before} {after = after} told failed
 print_told : (r : Result (Unit {0}) StreamFault) (to : Target) (bytes : List ℕ) {old new : Runtime} {before after : WorldState} → Beside old new → (told : Prints to bytes before old.streams r after new.streams)
     → IfErr r IsOutputFault → SimulatesLogged old before new after (halted r) (print_bytes told.opening bytes)
 print_told (Ok tt) to bytes beside told fault = record { grows = told.grows; means = λ oracle s past consistent stands. print_comes to bytes beside told oracle s past stands }
-print_told (Err Memory) to bytes {old = old} {new = new} beside told fault = record { grows = told.grows; means = λ oracle s past consistent stands. print_fails to bytes Memory old new told (told.failure stands.clear) oracle s past stands }
-print_told (Err WriteFailed) to bytes {old = old} {new = new} beside told fault = record { grows = told.grows; means = λ oracle s past consistent stands. print_fails to bytes WriteFailed old new told (told.failure stands.clear) oracle s past stands }
+print_told (Err Memory) to bytes {old = old} {new = new} {before = before} {after = after} beside told fault = record { grows = told.grows; means = λ oracle s past consistent stands. print_fails to bytes Memory old new told (may_fail_last before after stands.clear told.failure) oracle s past stands }
+print_told (Err WriteFailed) to bytes {old = old} {new = new} {before = before} {after = after} beside told fault = record { grows = told.grows; means = λ oracle s past consistent stands. print_fails to bytes WriteFailed old new told (fails_last before after stands.clear told.failure) oracle s past stands }
 print_told (Err InputNotReadable) to bytes beside told fault = absurd (elim fault [ inl e ↦ (cc) | inr e ↦ (cc) ])
 print_told (Err OutputNotOpened) to bytes beside told fault = absurd (elim fault [ inl e ↦ (cc) | inr e ↦ (cc) ])
 print_told (Err TooManyStreams) to bytes beside told fault = absurd (elim fault [ inl e ↦ (cc) | inr e ↦ (cc) ])

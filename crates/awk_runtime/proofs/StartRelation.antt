@@ -87,7 +87,7 @@ module _ (items : List Item) (start : StartValues) (oracle : Oracle) (limit : �
 
 -- a run begins in a world without a past
 pub start_stands : (items : List Item) (naming : Naming) (start : StartValues) (oracle : Oracle) (limit : ℕ) (m : Runtime) (k : WorldState) → IsStart naming start limit m → naming.arrays ≡ array_names_of items → naming.functions ≡ function_names_of items
-    → k.log ≡ [] → k.first_failure ≡ None → StateRelation oracle m k (start_state items start oracle limit) []
+    → k.log ≡ [] → k.failures ≡ [] → StateRelation oracle m k (start_state items start oracle limit) []
 start_stands items naming start oracle limit m k is arrays functions empty clear = record {
   clear = clear;
   streams = start_streams items start oracle limit k empty m.streams is.streams;

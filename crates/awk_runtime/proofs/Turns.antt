@@ -3,6 +3,7 @@ use Rattle.std.proofs.Common.{◌≡◌, ℕ, zero, suc, Bool, true, false, List
 use Rattle.std.specs.Global.{Vec}
 use Rattle.awk_world.specs.declared.world.InputKind.{InputKind}
 use Rattle.awk_world.specs.declared.world.OutputKind.{OutputKind}
+use Rattle.awk_world.specs.declared.world.WorldFault.TheVariants.{Failed}
 use Rattle.awk_streams.specs.declared.named.NamedStream.{NamedStream}
 use Rattle.awk_streams.specs.Log.{Event, OpenedInput, OpenedOutput, Read, Ended, Broke, Wrote, Flushed, Closed, Ran}
 use Rattle.awk_streams.specs.WorldState.{WorldState, FailsNow, MayFailNow}
@@ -23,6 +24,7 @@ use Rattle.awk_semantics.specs.Order.{Stage, AreBetween, GoesBetween, Meets, Mee
 use Rattle.awk_semantics.proofs.Requests.{goes-self, goes_last, meets_append, requests-append}
 use Rattle.awk_runtime.specs.declared.runtime.Runtime.{Runtime}
 use Rattle.awk_runtime.specs.support.Simulation.{OwnRelation, main_number, stage_of, StreamsRelation, StateRelation, FailureRelation, ResultRelation, SimulatesLogged, Beside}
+use Rattle.awk_runtime.proofs.Composition.{fails_last, may_fail_last}
 use Rattle.awk_runtime.proofs.Effects.{outputs-append, begins-then, begins_still}
 use Rattle.awk_runtime.proofs.Steps.{beside_holds}
 
@@ -118,13 +120,13 @@ lost oracle old new before after s past more loses stands failed = record {
 pub memory_loses : {A : Type 0} {old new : Runtime} {before after : WorldState} (run : Run A) → Grows before after → LosesBytes before old.streams after new.streams → MayFailNow before after → SimulatesLogged old before new after (Err (halt.Fault faults.OutOfMemory)) run
 memory_loses {old = old} {new = new} {before = before} {after = after} run grows loses failure = record {
   grows = grows;
-  means = λ oracle s past consistent stands. lost oracle old new before after s past (run s).effects loses stands (failure stands.clear);
+  means = λ oracle s past consistent stands. lost oracle old new before after s past (run s).effects loses stands (may_fail_last before after stands.clear failure);
 }
 
-pub write_loses : {A : Type 0} {old new : Runtime} {before after : WorldState} (run : Run A) → Grows before after → LosesBytes before old.streams after new.streams → FailsNow before after → SimulatesLogged old before new after (Err (halt.Fault faults.WriteFailed)) run
+pub write_loses : {A : Type 0} {old new : Runtime} {before after : WorldState} (run : Run A) → Grows before after → LosesBytes before old.streams after new.streams → FailsNow Failed before after → SimulatesLogged old before new after (Err (halt.Fault faults.WriteFailed)) run
 write_loses {old = old} {new = new} {before = before} {after = after} run grows loses failure = record {
   grows = grows;
-  means = λ oracle s past consistent stands. lost oracle old new before after s past (run s).effects loses stands (failure stands.clear);
+  means = λ oracle s past consistent stands. lost oracle old new before after s past (run s).effects loses stands (fails_last before after stands.clear failure);
 }
 
 -- as many streams stand open in the code as in the definitions
@@ -143,7 +145,7 @@ stage_same l l' m m' xs xs' e f h =
 -- the state stands where neither the streams nor the world is another
 pub stands_same : (oracle : Oracle) {old new : Runtime} {before after : WorldState} (s : State) (past : List Effect) → Beside old new → new.streams ≡ old.streams → after ≡ before → StateRelation oracle old before s past → StateRelation oracle new after s (past ++ [])
 stands_same oracle {old = old} {new = new} {before = before} {after = after} s past beside same world stands = record {
-  clear = ap (λ (w : WorldState). w.first_failure) world ∙ stands.clear;
+  clear = ap (λ (w : WorldState). w.failures) world ∙ stands.clear;
   streams = subst (λ (l : List Effect). StreamsRelation oracle new.streams after s l) (sym (append-nil past)) (subst (λ (w : WorldState). StreamsRelation oracle new.streams w s past) (sym world) (subst (λ (v : StreamsView). StreamsRelation oracle v before s past) (sym same) stands.streams));
   holds = beside_holds beside stands.holds;
 }

@@ -1,5 +1,5 @@
 // The system as the outside of a run.
-ghost use Rattle.std.specs.Prelude.{◌≡◌, ◌≢◌, ◌≤◌, ◌⊎◌, ℕ, Ok, Err, [], None, Some, IfOk, OnErr};
+ghost use Rattle.std.specs.Prelude.{◌≡◌, ◌≢◌, ◌≤◌, ◌⊎◌, ℕ, Ok, Err, [], Some, IfOk, OnErr};
 ghost use Rattle.std.specs.Prelude.{IsTrue, IsSome, IfSome, option_and_then, true, false, is_some, length, nat_lt, pos, if◌then◌else◌};
 ghost use Rattle.std.specs.Str.{IsUtf8};
 ghost use Rattle.std.specs.Ordering.{nat_cmp};
@@ -203,7 +203,7 @@ impl<
 > World for SysWorld<R, I, O, E> {
     ghost is_logged = { ⊥ };
 
-    ghost state = { λ world. record { is_open = is_open_in world.opened; log = []; first_failure = None } };
+    ghost state = { λ world. record { is_open = is_open_in world.opened; log = []; failures = [] } };
 
     ghost standard_open = { λ world id small. standard_outputs_open world.opened id small };
 

@@ -1,8 +1,10 @@
 -- How the code's state and world stand for the state of the definitions, and what a part of the code does.
-use Rattle.std.specs.Prelude.{◌≡◌, ◌⊎◌, ℕ, pos, ◌≤◌, ◌<◌, Bool, false, List, [], ◌++◌, length, map, slice_get, get_or, unwrap_or, Option, Some, None, Result, Ok, Err, OnOk}
+use Rattle.std.specs.Prelude.{◌≡◌, ◌⊎◌, ℕ, pos, ◌≤◌, ◌<◌, Bool, false, List, [], ◌∷◌, ◌++◌, length, map, slice_get, get_or, unwrap_or, Option, Some, None, Result, Ok, Err, OnOk}
 use Rattle.awk_value.specs.declared.value.Value.TheVariants.{Nothing}
 use Rattle.awk_world.specs.declared.world.InputKind.{InputKind}
 use Rattle.awk_world.specs.declared.world.OutputKind.{OutputKind}
+use Rattle.awk_world.specs.declared.world.WorldFault.{WorldFault}
+use Rattle.awk_world.specs.declared.world.WorldFault.TheVariants.{Memory, Failed}
 use Rattle.awk_streams.specs.declared.fault.StreamFault.{StreamFault}
 use Rattle.awk_streams.specs.declared.input.Input.{Input}
 use Rattle.awk_streams.specs.WorldState.{WorldState}
@@ -76,7 +78,7 @@ pub record StreamsRelation (oracle : Oracle) (streams : StreamsView) (k : WorldS
 
 -- the code's state and world stand for the state s after these effects
 pub record StateRelation (oracle : Oracle) (m : Runtime) (k : WorldState) (s : State) (past : List Effect) : Type 0 where
-  pub clear : k.first_failure ≡ None
+  pub clear : k.failures ≡ []
   pub streams : StreamsRelation oracle m.streams k s past
   pub holds : OwnRelation m s
 
@@ -86,8 +88,8 @@ pub record IsReady (is_logged : Type 0) (k : WorldState) (streams : StreamsView)
   pub are_sound : is_logged → AreSound k streams
 
 -- a part that a failure ended: of these effects some were done, whose requests the log met in turn, and where the world met no
--- failure the outputs, with what is held back, are what those print; they always begin what all print. The world's first failure
--- stands so
+-- failure the outputs, with what is held back, are what those print; they always begin what all print. The world's failures
+-- stand so
 pub record FailureRelation (oracle : Oracle) (stands : Type 0) (streams : StreamsView) (k : WorldState) (effects : List Effect) : Type 0 where
   pub done : List Effect
   pub others : List Effect
@@ -95,19 +97,19 @@ pub record FailureRelation (oracle : Oracle) (stands : Type 0) (streams : Stream
   pub last : Stage
   pub at : last.log ≡ k.log
   pub turn : MeetsAll oracle (requests_from first_outputs done) first_stage last
-  pub kept : k.first_failure ≡ None → printed_openings k streams ≡ outputs_after done
+  pub kept : k.failures ≡ [] → printed_openings k streams ≡ outputs_after done
   pub begins : Begins (printed_openings k streams) (outputs_after effects)
   pub failure : stands
 
--- the world's first failure stands where its log ended
-abbrev pub FailedLast : WorldState → Type 0
-FailedLast k = k.first_failure ≡ Some (length k.log)
+-- the world met one failure, of this kind, where its log ended
+abbrev pub FailedLast : WorldFault → WorldState → Type 0
+FailedLast what k = (output : Option ℕ) × (k.failures ≡ record { at = length k.log; output = output; what = what } ∷ [])
 
--- what a part came to: a failed write was the world's first failure, and where memory was refused, by the world or not, it had
--- none before; else the result is the meaning's, and the code's state stands for the meaning's
+-- what a part came to: where a write failed, that was the world's one failure, and where memory was refused, the world met none or
+-- this one alone; else the result is the meaning's, and the code's state stands for the meaning's
 abbrev pub ResultRelationBy : {A : Type 0} → Oracle → Runtime → WorldState → Sort → Out A → List Effect → Type 0
-ResultRelationBy oracle m k WantOfMemory o past = FailureRelation oracle ((k.first_failure ≡ None) ⊎ FailedLast k) m.streams k (past ++ o.effects)
-ResultRelationBy oracle m k FailedWrite o past = FailureRelation oracle (FailedLast k) m.streams k (past ++ o.effects)
+ResultRelationBy oracle m k WantOfMemory o past = FailureRelation oracle ((k.failures ≡ []) ⊎ FailedLast Memory k) m.streams k (past ++ o.effects)
+ResultRelationBy oracle m k FailedWrite o past = FailureRelation oracle (FailedLast Failed k) m.streams k (past ++ o.effects)
 ResultRelationBy oracle m k (OfLanguage reason) o past = (o.result ≡ Err reason) × StateRelation oracle m k o.state (past ++ o.effects)
 
 abbrev pub ResultRelation : {A : Type 0} → Oracle → Runtime → WorldState → Result A Halt → Out A → List Effect → Type 0

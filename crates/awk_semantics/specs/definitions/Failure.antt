@@ -1,10 +1,13 @@
 -- What a failure of the outside, or want of memory, leaves of a run (POSIX awk, EXIT STATUS; CONSEQUENCES OF ERRORS).
-use Rattle.std.specs.Prelude.{◌≡◌, ◌⊎◌, ℕ, true, List, [], ◌∷◌, ◌++◌, length, Some, is_some}
+use Rattle.std.specs.Prelude.{◌≡◌, ◌⊎◌, ℕ, true, List, [], ◌∷◌, ◌++◌, length, Some}
+use Rattle.awk_world.specs.declared.failure.Failure.{Failure}
+use Rattle.awk_world.specs.declared.world.WorldFault.{WorldFault}
+use Rattle.awk_world.specs.declared.world.WorldFault.TheVariants.{Memory, Failed}
 use Rattle.awk_streams.specs.Log.{Event}
 use Rattle.awk_streams.specs.Oracle.{Oracle, IsConsistent}
 use Rattle.awk_streams.specs.Writes.{with_events}
 use Rattle.awk_streams.specs.Openings.{outputs_of, Begins, AreBrought}
-use Rattle.awk_streams.specs.WorldState.{WorldState}
+use Rattle.awk_streams.specs.WorldState.{WorldState, is_any, first_of}
 pub use Rattle.awk_streams.specs.Commands.{AreOfTheEnd}
 use Rattle.awk_grammar.specs.Tree.{Item}
 use Rattle.awk_semantics.specs.declared.fault as declared
@@ -69,24 +72,31 @@ pub record IsSettled (oracle : Oracle) (meaning : Meaning) (log : List Event) (r
   pub at : last.log ≡ log
   pub meets : MeetsAll oracle (before_end meaning.requests) first_stage last
 
--- want of memory, a failed write, or a fault that was settled when the log was this
-abbrev pub FailsAs : Oracle → Meaning → List Event → Outcome → Type 0
-FailsAs oracle meaning log result = (result ≡ Fault OutOfMemory) ⊎ ((result ≡ Fault WriteFailed) ⊎ IsSettled oracle meaning log result)
+-- the fault that a failure of the world is: refused memory, or a failed write or flush
+abbrev pub fault_of : WorldFault → declared.Fault.Fault
+fault_of Memory = OutOfMemory
+fault_of Failed = WriteFailed
 
--- A log that held so many events at the first failure, and had met the first of the requests then; after it the run only ended,
--- by the later events, the oldest first.
-pub record FailsAt (meaning_by : Oracle → Meaning) (n : ℕ) (log : List Event) (result : Outcome) : Type 0 where
+-- the fault that the first failure is, want of memory of the run's own, or a fault that was settled when the log was this
+abbrev pub FailsAs : Oracle → Meaning → List Event → WorldFault → Outcome → Type 0
+FailsAs oracle meaning log what result = (result ≡ Fault (fault_of what)) ⊎ ((result ≡ Fault OutOfMemory) ⊎ IsSettled oracle meaning log result)
+
+-- A log at this first failure, which had met the first of the requests then; after it the run only ended, by the later events,
+-- the oldest first.
+pub record FailsAt (meaning_by : Oracle → Meaning) (failure : Failure) (log : List Event) (result : Outcome) : Type 0 where
   pub earlier : List Event
   pub later : List Event
   pub parts : log ≡ with_events later earlier
-  pub count : length earlier ≡ n
+  pub count : length earlier ≡ failure.at
   pub turn : (oracle : Oracle) → IsConsistent oracle log → MeetsFirst oracle (before_end (meaning_by oracle).requests) earlier
   pub ends : AreOfTheEnd later
-  pub fails : (oracle : Oracle) → IsConsistent oracle log → FailsAs oracle (meaning_by oracle) earlier result
+  pub fails : (oracle : Oracle) → IsConsistent oracle log → FailsAs oracle (meaning_by oracle) earlier failure.what result
 
 -- a run that met a failure of the world, or found no memory: its outputs are beginnings of the meaning's, and it asked the world
--- for nothing but what the meaning asks, in turn, before it ended
+-- for nothing but what the meaning asks, in turn, before it ended; a failed write is its outcome only where the first failure was a
+-- failed write or flush
 pub record Fails (meaning_by : Oracle → Meaning) (world : WorldState) (result : Outcome) : Type 0 where
-  pub begins : (is_some world.first_failure ≡ true) ⊎ (result ≡ Fault OutOfMemory) → (oracle : Oracle) → IsConsistent oracle world.log → Begins (outputs_of world.log) (meaning_by oracle).outputs
-  pub short : (is_some world.first_failure ≡ true) ⊎ (result ≡ Fault OutOfMemory) → (oracle : Oracle) → IsConsistent oracle world.log → IsCutShort oracle (meaning_by oracle) world.log
-  pub at : (n : ℕ) → world.first_failure ≡ Some n → FailsAt meaning_by n world.log result
+  pub begins : (is_any world.failures ≡ true) ⊎ (result ≡ Fault OutOfMemory) → (oracle : Oracle) → IsConsistent oracle world.log → Begins (outputs_of world.log) (meaning_by oracle).outputs
+  pub short : (is_any world.failures ≡ true) ⊎ (result ≡ Fault OutOfMemory) → (oracle : Oracle) → IsConsistent oracle world.log → IsCutShort oracle (meaning_by oracle) world.log
+  pub at : (failure : Failure) → first_of world.failures ≡ Some failure → FailsAt meaning_by failure world.log result
+  pub blamed : result ≡ Fault WriteFailed → (failure : Failure) × (first_of world.failures ≡ Some failure) × (failure.what ≡ Failed)

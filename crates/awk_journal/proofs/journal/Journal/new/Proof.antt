@@ -21,7 +21,6 @@ use denote.Triple.Entry.{on_entry, alive}
 use denote.Triple.Spec.{Meets, triple_of}
 use denote.Triple.Table.{entered}
 use denote.Triple.Walked.{says, Stays, walk_of, Walks, ends_at, walked, walk_Meets}
-use Rattle.std.specs.Prelude.{None}
 use Rattle.awk_journal.specs.declared.journal.Journal.{Journal}
 use Rattle.awk_journal.specs.contracts.journal.Journal as made
 use Rattle.awk_journal.specs.contracts.journal.Journal.new.Key.{name as key}
@@ -30,7 +29,7 @@ use Rattle.awk_journal.proofs.journal.Journal.new.Statement as stated
 use Rattle.awk_journal.proofs.journal.Journal.new.Code as code
 
 abbrev empty : Journal
-empty = record { log = []; first_failure = None }
+empty = record { log = []; failures = [] }
 
 abbrev stayed : Stays (f.ended).signature.params (f.ended).kept
 stayed = tt

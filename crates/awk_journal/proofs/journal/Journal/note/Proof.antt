@@ -24,8 +24,8 @@ use denote.Steps.{opens, closes}
 use denote.Triple.Spec.{Meets, triple_of}
 use denote.Triple.Table.{entered}
 use denote.Triple.Walked.{says, Stays, stay_ref, stay_none_ref, AllGo, Goes-ref, Goes-none_ref, Walks, ends_at, walked, walk_Meets}
-use Rattle.awk_world.specs.Log.{logged, failure_after}
-use Rattle.awk_journal.specs.Calls.{event_of}
+use Rattle.awk_world.specs.Log.{logged, failures_after}
+use Rattle.awk_journal.specs.Calls.{noted}
 use Rattle.awk_journal.specs.declared.call.Call.{Call}
 use Rattle.awk_journal.specs.declared.journal.Journal.{Journal}
 use Rattle.awk_journal.specs.contracts.journal.Journal as T
@@ -41,14 +41,14 @@ stayed = (stay_ref (0 ∷ []) tt (plain (λ _. T.the_row)), (stay_none_ref (1 �
 module _ {M : Type 1} {𝓤 : Ura M} (𝓛 : Logic 𝓤) (at_mem : Memory → SProp 𝓤) (run : Routine → Fun 𝓤) where
   open 𝓛 use {H, A}
 
-  abbrev noted : Call → Journal → Journal
-  noted call h = record { log = logged (event_of call) h.log; first_failure = failure_after (event_of call) h.log h.first_failure }
+  abbrev left_by : Call → Journal → Journal
+  left_by call h = record { log = logged (noted call) h.log; failures = failures_after (noted call) h.log h.failures }
 
   walks : (Cs : Calls 𝓤 H) (Λ : Loops 𝓤 H) → Walks 𝓛 f.ended stayed (WpFn 𝓤 H Cs Λ code.function) (f.clauses 𝓛 at_mem run)
   walks Cs Λ = walked 𝓛 f.ended stayed (f.clauses 𝓛 at_mem run) (WpFn 𝓤 H Cs Λ code.function) (λ κs. (mut_vals, (shr_vals, tt)))
       (λ κs. (mut_Tells (named 0) κs.0 T.the_row, (shr_Tells (named 1) κs.1.0 (C.the_row (named_lft 3 2 tt κs)), tt)))
       (λ κs qs bounds a none are.
-      let b = a.0.ref_ptr.0 in let o = a.0.ref_ptr.1 in let left = noted a.1.0.now a.0.now in
+      let b = a.0.ref_ptr.0 in let o = a.0.ref_ptr.1 in let left = left_by a.1.0.now a.0.now in
       let at : List Val × (List Val × Unit {0}) = (mut_vals a.0, (shr_vals a.1.0, tt)) in
       via 𝓤 _ (fst∗ 𝓤 _ (emp 𝓤)) (qed 𝓛 ((‵ (flft κs.0 qs.0) ⊛ (‵ (flft κs.1.0 qs.1.0) ⊛ (‵ (flft κs.1.1.0 qs.1.1.0) ⊛ ‵ ftrue))) ∷ ‵ (owns (types_at (f.signature).params κs) a at) ∷ []) ∵
       split ! $ move ! (2 ∷ []) $ fsplit ! $ fsplit3 ! $ drop ! $ move ! (0 ∷ 1 ∷ 3 ∷ []) $
