@@ -1,9 +1,9 @@
 -- Lemmas on the lines that are written to standard error.
-use Rattle.std.proofs.Common.{◌≡◌, ℕ, ◌+◌, true, false, List, [], ◌∷◌, ◌++◌, length, take, Option, None, Result, Ok, Err, refl, sym, ◌∙◌, ap, subst, append_assoc, length-append}
-use Rattle.std.specs.Prelude.{is_some}
+use Rattle.std.proofs.Common.{◌≡◌, ℕ, suc, ◌+◌, true, false, List, [], ◌∷◌, ◌++◌, length, take, Result, Ok, Err, refl, sym, ◌∙◌, ap, subst, arith, append_assoc, length-append}
 use Rattle.std.specs.Result.{is_err}
 use Rattle.std.proofs.lemmas.List.{take-append-le}
 use Rattle.std.proofs.Math.Seq.{take-length, take-append-add}
+use Rattle.awk_world.specs.declared.failure.Failure.{Failure}
 use Rattle.awk_streams.specs.declared.fault.StreamFault.{StreamFault}
 use Rattle.awk_streams.specs.Log.{Event, Wrote}
 use Rattle.awk_streams.specs.Writes.{with_events, GoesOn, Writes}
@@ -28,12 +28,15 @@ GoesOn-append id xs ys old mid new first second = record {
   each = Writes-append id xs ys first.events second.events first.each second.each;
 }
 
-not_failed : {P : Type 0} (failure : Option ℕ) → is_some failure ≡ true → failure ≡ None → P
-not_failed failure some none = let same = ap is_some none in absurd (cc)
+-- one failure more is another list
+not_longer : {f : Failure} (older newer : List Failure) → newer ≡ f ∷ older → newer ≡ older → ⊥
+not_longer older newer more same =
+    let e : suc (length older) ≡ length older = sym (ap length more) ∙ ap length same in
+    omega (arith, e)
 
-all_unless_failed : (line : List ℕ) (k k' : WorldState) (r : Result (Unit {0}) StreamFault) (w : WritesAll 1 line k r k') → k'.first_failure ≡ None → w.count ≡ length line
-all_unless_failed line k k' (Ok u) w none = w.all
-all_unless_failed line k k' (Err e) w none = not_failed k'.first_failure w.failure none
+all_unless_failed : (line : List ℕ) (k k' : WorldState) (r : Result (Unit {0}) StreamFault) (w : WritesAll 1 line k r k') → k'.failures ≡ k.failures → w.count ≡ length line
+all_unless_failed line k k' (Ok u) w same = w.all
+all_unless_failed line k k' (Err e) w same = absurd (not_longer k.failures k'.failures w.fails.1.1 same)
 
 -- a line of which a part was written
 pub says_part : (line : List ℕ) (k k' : WorldState) (r : Result (Unit {0}) StreamFault) → is_err r ≡ true → WritesAll 1 line k r k' → ReportsLine line k k'
@@ -41,7 +44,7 @@ says_part line k k' (Ok u) e w = absurd (cc)
 says_part line k k' (Err fault) e w = record {
   count = w.count;
   writes = subst (λ (bs : List ℕ). GoesOn (Writes 1 bs) k.log k'.log) (sym (take-append-le w.count line (10 ∷ []) w.within)) w.writes;
-  all = λ none. not_failed k'.first_failure w.failure none;
+  all = λ same. absurd (not_longer k.failures k'.failures w.fails.1.1 same);
 }
 
 -- a line that was written, and then its newline or not
@@ -53,5 +56,5 @@ says_all line k m k' (Ok u) r e w v =
     record {
       count = length line + v.count;
       writes = subst (λ (bs : List ℕ). GoesOn (Writes 1 bs) k.log k'.log) (sym whole) (GoesOn-append 1 (take w.count line) (take v.count (10 ∷ [])) k.log m.log k'.log w.writes v.writes);
-      all = λ none. ap (λ n. length line + n) (all_unless_failed (10 ∷ []) m k' r v none) ∙ sym (length-append line (10 ∷ []));
+      all = λ same. ap (λ n. length line + n) (all_unless_failed (10 ∷ []) m k' r v (same ∙ sym w.no_failure)) ∙ sym (length-append line (10 ∷ []));
     }

@@ -1,8 +1,7 @@
 -- From the parts of a run to the whole.
-use Rattle.std.proofs.Common.{◌≡◌, ◌⊎◌, ℕ, ◌≤◌, Bool, List, [], length, None, Some, inl, inr, Result, Ok, refl, sym, ap, ◌∙◌, subst, arith}
-use Rattle.std.specs.Prelude.{IfErr}
+use Rattle.std.proofs.Common.{◌≡◌, ℕ, ◌≤◌, Bool, List, [], inl, inr, Result, Ok, refl, sym, ap, ◌∙◌, subst, arith}
+use Rattle.awk_world.specs.declared.world.WorldFault.TheVariants.{Failed}
 use Rattle.awk_streams.specs.declared.fault.StreamFault.{StreamFault}
-use Rattle.awk_streams.specs.Outputs.{IsOutputFault}
 use Rattle.awk_streams.specs.Log as log
 use Rattle.awk_streams.specs.Oracle.{Oracle, IsConsistent, standing}
 use Rattle.awk_streams.specs.Orderly.{IsOrderly, IsInOrder}
@@ -25,7 +24,7 @@ use Rattle.awk_semantics.specs.definitions.Failure.{FailsAt}
 use Rattle.awk_semantics.specs.support.Unended.{LawOfEnds}
 use Rattle.awk_semantics.proofs.Requests.{goes-self}
 use Rattle.awk_runtime.specs.declared.runtime.Runtime.{Runtime}
-use Rattle.awk_runtime.specs.support.Simulation.{FailureRelation, FailedLast, ResultRelation}
+use Rattle.awk_runtime.specs.support.Simulation.{FailureRelation, ResultRelation}
 use Rattle.awk_runtime.proofs.Composition.{cut_off}
 use Rattle.awk_run.specs.definitions.Runs.{IsUntouched, IsUndisturbed, Runs, RunsFrom}
 use Rattle.awk_run.specs.support.Assigned.{Begins}
@@ -33,7 +32,7 @@ use Rattle.awk_run.specs.support.Follows.{FollowsPlan}
 use Rattle.awk_run.specs.support.Planned.{IsPlanFor, assign_and_run_at}
 use Rattle.awk_run.specs.support.Verdict.{outcome_after, no_streams, EndsWithoutStreams}
 use Rattle.awk_run.proofs.PlanMeans.{functions_of, whole_same}
-use Rattle.awk_run.proofs.RunEnds.{read_off, IsMeant, Came, came, brought, in_turn, no_failure_before, halted_by, body_failed, fails_at, begins_at_end}
+use Rattle.awk_run.proofs.RunEnds.{read_off, IsMeant, FailedAtMostOnce, Came, came, brought, in_turn, not_clear, no_failure_before, halted_by, body_failed, write_blamed, fails_at, begins_at_end}
 use Rattle.awk_run.proofs.ShortRuns.{short_at, cut_at}
 
 -- the law that some oracle is consistent with an orderly log, as the streams give it
@@ -41,12 +40,12 @@ abbrev pub SomeIsConsistent : Type 0
 SomeIsConsistent = (l : List log.Event) → IsOrderly l → (a : Oracle) × IsConsistent a l
 
 -- an undisturbed run came to what the meaning has
-calm_meant : (oracle : Oracle) (k1 k2 : WorldState) (streams : StreamsView) (ended : Outcome) (f : Result (Unit {0}) StreamFault) (o : Out (Unit {0})) {result : Outcome} → result ≡ outcome_after ended f → k1.first_failure ≡ None → IsUndisturbed k2 result → Came oracle k1 streams ended o →
+calm_meant : (oracle : Oracle) (k1 k2 : WorldState) (streams : StreamsView) (ended : Outcome) (f : Result (Unit {0}) StreamFault) (o : Out (Unit {0})) {result : Outcome} → result ≡ outcome_after ended f → k1.failures ≡ [] → IsUndisturbed k2 result → Came oracle k1 streams ended o →
     IsMeant oracle k1 streams o ended
 calm_meant oracle k1 k2 streams ended f o is clear calm (inl meant) = meant
 calm_meant oracle k1 k2 streams ended f o is clear calm (inr cut) = elim cut.cause [
   | inl memory ↦ absurd (calm.memory (is ∙ halted_by faults.OutOfMemory ended f memory))
-  | inr write ↦ let bad : None ≡ Some (length k1.log) = sym clear ∙ write.1 in absurd cc
+  | inr write ↦ absurd (not_clear Failed k1 write.1 clear)
 ]
 
 -- a run that was undisturbed
@@ -57,7 +56,7 @@ pub record IsWhole (oracle : Oracle) (k2 : WorldState) (o : Out (Unit {0})) (res
 
 calm_whole : (oracle : Oracle) (k1 k2 : WorldState) (streams last : StreamsView) (ended : Outcome) (f : Result (Unit {0}) StreamFault) (o : Out (Unit {0})) {result : Outcome} → Finishes k1 streams f k2 last → result ≡ outcome_after ended f → IsUndisturbed k2 result → Came oracle k1 streams ended o → IsWhole oracle k2 o result
 calm_whole oracle k1 k2 streams last ended f o told is calm body =
-    let before = no_failure_before f told calm.first_failure in
+    let before = no_failure_before f told calm.failures in
     let meant = calm_meant oracle k1 k2 streams ended f o is before.1 calm body in
     let ends : Finishes k1 streams (Ok tt) k2 last = subst (λ x. Finishes k1 streams x k2 last) before.0 told in
     record {
@@ -67,10 +66,10 @@ calm_whole oracle k1 k2 streams last ended f o told is calm body =
     }
 
 -- a body that came to this, and its end, are a run
-runs_by : (items : List Item) (start : StartValues) (limit : ℕ) (k1 k2 : WorldState) (streams last : StreamsView) (ended : Outcome) (f : Result (Unit {0}) StreamFault) {result : Outcome} → SomeIsConsistent → LawOfEnds → IsOrderly k2.log → Finishes k1 streams f k2 last → IfErr f IsOutputFault → result ≡ outcome_after ended f
+runs_by : (items : List Item) (start : StartValues) (limit : ℕ) (k1 k2 : WorldState) (streams last : StreamsView) (ended : Outcome) (f : Result (Unit {0}) StreamFault) {result : Outcome} → SomeIsConsistent → LawOfEnds → IsOrderly k2.log → Finishes k1 streams f k2 last → result ≡ outcome_after ended f
     → ((oracle : Oracle) → IsConsistent oracle k2.log → Came oracle k1 streams ended (assign_and_run items limit start.pre (start_state items start oracle limit))) → Runs items start limit k2 result
 unfolding run_program
-runs_by items start limit k1 k2 streams last ended f law unended orderly told fault is body =
+runs_by items start limit k1 k2 streams last ended f law unended orderly told is body =
     let out_by = λ (oracle : Oracle). assign_and_run items limit start.pre (start_state items start oracle limit) in
     record {
       some = law k2.log orderly;
@@ -82,7 +81,8 @@ runs_by items start limit k1 k2 streams last ended f law unended orderly told fa
       failure = record {
         begins = λ cause oracle consistent. begins_at_end oracle k1 k2 streams last ended f (out_by oracle) told (body oracle consistent);
         short = λ caused oracle consistent. short_at oracle k1 k2 streams last f (out_by oracle) told (unended items limit start.pre (start_state items start oracle limit)) (body_failed oracle k1 streams ended (out_by oracle) (body oracle consistent));
-        at = λ n some. subst (λ x. FailsAt (λ oracle. read_off (out_by oracle)) n k2.log x) (sym is) (fails_at out_by k1 k2 streams last ended f n told fault (λ oracle. unended items limit start.pre (start_state items start oracle limit)) (law k2.log orderly) body some);
+        at = λ g some. subst (λ x. FailsAt (λ oracle. read_off (out_by oracle)) g k2.log x) (sym is) (fails_at out_by k1 k2 streams last ended f g told (λ oracle. unended items limit start.pre (start_state items start oracle limit)) (law k2.log orderly) body some);
+        blamed = λ write. let some = law k2.log orderly in write_blamed some.0 k1 k2 streams last ended f (out_by some.0) told (body some.0 some.1) (sym is ∙ write);
       };
       cut = λ none memory oracle consistent. cut_at oracle k1 k2 streams last f (out_by oracle) told (body_failed oracle k1 streams ended (out_by oracle) (body oracle consistent)) none;
     }
@@ -110,11 +110,11 @@ untouched_sound k order fresh = record {
 }
 
 pub runs_from : (items : List Item) (plan : Plan) (start : StartValues) (limit : ℕ) {is_logged : Type 0} {m m1 : Runtime} {k k1 k2 : WorldState} {r : Result (Unit {0}) Halt} {f : Result (Unit {0}) StreamFault} {last : StreamsView} {result : Outcome} → SomeIsConsistent → LawOfEnds → IsPlanFor items plan m.names → AreFor (tables_of items plan) (functions_of items limit) → Begins items start limit m
-    → FollowsPlan is_logged plan (λ at. assign_and_run_at at plan start.pre) m k m1 k1 r → (is_logged → AreSound k2 last) → (is_logged → Finishes k1 m1.streams f k2 last) → IfErr f IsOutputFault → result ≡ outcome_after (outcome_of r m1.status) f
+    → FollowsPlan is_logged plan (λ at. assign_and_run_at at plan start.pre) m k m1 k1 r → (is_logged → AreSound k2 last) → (is_logged → Finishes k1 m1.streams f k2 last) → result ≡ outcome_after (outcome_of r m1.status) f
     → RunsFrom is_logged items start limit k k2 result
-runs_from items plan start limit {m1 = m1} {k = k} {k1 = k1} {k2 = k2} {r = r} {f = f} {last = last} law unended is for began ran sound told fault result = record {
+runs_from items plan start limit {m1 = m1} {k = k} {k1 = k1} {k2 = k2} {r = r} {f = f} {last = last} law unended is for began ran sound told result = record {
   runs = λ t fresh.
-      runs_by items start limit k1 k2 m1.streams last (outcome_of r m1.status) f law unended (sound t).order.orderly (told t) fault result
+      runs_by items start limit k1 k2 m1.streams last (outcome_of r m1.status) f law unended (sound t).order.orderly (told t) result
       (λ oracle consistent. body_came items plan start limit is for began fresh t ran oracle ((told t).grows.consistent oracle consistent));
 }
 
@@ -123,14 +123,14 @@ none_printed : (k : WorldState) → k.log ≡ [] → printed_openings k no_strea
 none_printed k empty = subst (λ (x : List log.Event). printed_openings (record k { log = x }) no_streams ≡ first_outputs) (sym empty) refl
 
 -- and nothing is done
-none_done : (oracle : Oracle) (k : WorldState) (o : Out (Unit {0})) → IsUntouched k → FailureRelation oracle ((k.first_failure ≡ None) ⊎ FailedLast k) no_streams k o.effects
-none_done oracle k o fresh = cut_off oracle no_streams k [] o.effects first_stage (sym fresh.log) (goes-self first_stage) (none_printed k fresh.log) (inl fresh.first_failure)
+none_done : (oracle : Oracle) (k : WorldState) (o : Out (Unit {0})) → IsUntouched k → FailureRelation oracle (FailedAtMostOnce k) no_streams k o.effects
+none_done oracle k o fresh = cut_off oracle no_streams k [] o.effects first_stage (sym fresh.log) (goes-self first_stage) (none_printed k fresh.log) (inl fresh.failures)
 
 -- a run that found no memory before it began, and its end
-pub runs_not : (items : List Item) (start : StartValues) (limit : ℕ) {is_logged : Type 0} {k k2 : WorldState} {f : Result (Unit {0}) StreamFault} → SomeIsConsistent → LawOfEnds → (is_logged → EndsWithoutStreams k f k2) → (is_logged → IsOrderly k2.log) → IfErr f IsOutputFault →
+pub runs_not : (items : List Item) (start : StartValues) (limit : ℕ) {is_logged : Type 0} {k k2 : WorldState} {f : Result (Unit {0}) StreamFault} → SomeIsConsistent → LawOfEnds → (is_logged → EndsWithoutStreams k f k2) → (is_logged → IsOrderly k2.log) →
     RunsFrom is_logged items start limit k k2 (Fault faults.OutOfMemory)
-runs_not items start limit {k = k} {k2 = k2} {f = f} law unended told orderly fault = record {
+runs_not items start limit {k = k} {k2 = k2} {f = f} law unended told orderly = record {
   runs = λ t fresh.
-      runs_by items start limit k k2 no_streams (told t).last (Fault faults.OutOfMemory) f law unended (orderly t) (told t).finishes fault (sym (halted_by faults.OutOfMemory (Fault faults.OutOfMemory) f refl))
+      runs_by items start limit k k2 no_streams (told t).last (Fault faults.OutOfMemory) f law unended (orderly t) (told t).finishes (sym (halted_by faults.OutOfMemory (Fault faults.OutOfMemory) f refl))
       (λ oracle consistent. inr record { fails = none_done oracle k (assign_and_run items limit start.pre (start_state items start oracle limit)) fresh; cause = inl refl });
 }

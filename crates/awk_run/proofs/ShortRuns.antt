@@ -1,5 +1,5 @@
 -- What a run that was cut short leaves: the first of the meaning's requests were met, and then it only ended.
-use Rattle.std.proofs.Common.{◌≡◌, List, [], None, Result, subst}
+use Rattle.std.proofs.Common.{◌≡◌, List, [], Result, subst}
 use Rattle.awk_streams.specs.declared.fault.StreamFault.{StreamFault}
 use Rattle.awk_streams.specs.Oracle.{Oracle}
 use Rattle.awk_streams.specs.Openings.{Opening, AreBrought}
@@ -23,11 +23,11 @@ short_at oracle k1 k2 streams last f o told unended fails = record {
 }
 
 -- where nothing failed, the end brought all that was printed
-all_brought : (k1 k2 : WorldState) (streams last : StreamsView) (f : Result (Unit {0}) StreamFault) → Finishes k1 streams f k2 last → k2.first_failure ≡ None → AreBrought (printed_openings k1 streams) k2.log
+all_brought : (k1 k2 : WorldState) (streams last : StreamsView) (f : Result (Unit {0}) StreamFault) → Finishes k1 streams f k2 last → k2.failures ≡ [] → AreBrought (printed_openings k1 streams) k2.log
 all_brought k1 k2 streams last f told none = (subst (λ x. Finishes k1 streams x k2 last) (no_failure_before f told none).0 told).brought
 
 -- and the body was cut between two effects
-pub cut_at : {failure : Type 0} (oracle : Oracle) (k1 k2 : WorldState) (streams last : StreamsView) (f : Result (Unit {0}) StreamFault) (o : Out (Unit {0})) → Finishes k1 streams f k2 last → FailureRelation oracle failure streams k1 o.effects → k2.first_failure ≡ None → IsCutBetween oracle o.effects k2.log
+pub cut_at : {failure : Type 0} (oracle : Oracle) (k1 k2 : WorldState) (streams last : StreamsView) (f : Result (Unit {0}) StreamFault) (o : Out (Unit {0})) → Finishes k1 streams f k2 last → FailureRelation oracle failure streams k1 o.effects → k2.failures ≡ [] → IsCutBetween oracle o.effects k2.log
 cut_at oracle k1 k2 streams last f o told fails none = record {
   done = fails.done;
   others = fails.others;

@@ -122,7 +122,7 @@ pub begins_by : (start : Start) {items : List Item} {plan : Plan} {kinds : Progr
 begins_by start {items = items} {plan = plan} {kinds = kinds} {limit = limit} {m = m} h first = record {
   streams = first.start.streams;
   steps = first.start.steps;
-  stands = λ oracle k fresh. start_stands items (naming_of plan kinds) (start_of start.operands.items start.environ.items) oracle limit m.runtime k first.start (plan_of h).arrays (plan_of h).functions fresh.log fresh.first_failure;
+  stands = λ oracle k fresh. start_stands items (naming_of plan kinds) (start_of start.operands.items start.environ.items) oracle limit m.runtime k first.start (plan_of h).arrays (plan_of h).functions fresh.log fresh.failures;
 }
 
 pub functions_for : (limit : ℕ) {items : List Item} {plan : Plan} {kinds : ProgramKinds} → IsProgramOf items plan kinds → AreFor (tables_of items plan) (functions_of items limit)

@@ -27,11 +27,11 @@ line_for Memory = out_of_memory
 line_for (Refused refusal) = codes "awk: " ++ refusal_text refusal
 
 -- nothing was done but writing a beginning of the line and its newline to standard error, and all of it
--- unless memory was refused or a write failed
+-- unless memory was refused or a write failed meanwhile
 pub record ReportsLine (line : List ℕ) (before after : WorldState) : Type 0 where
   pub count : ℕ
   pub writes : GoesOn (Writes 1 (take count (line ++ 10 ∷ []))) before.log after.log
-  pub all : after.first_failure ≡ None → count ≡ length (line ++ 10 ∷ [])
+  pub all : after.failures ≡ before.failures → count ≡ length (line ++ 10 ∷ [])
 
 abbrev pub ReportsIfAny : Option (List ℕ) → WorldState → WorldState → Type 0
 ReportsIfAny None before after = after ≡ before

@@ -1,5 +1,6 @@
 -- What a run of a program leaves in the world: what the program means.
-use Rattle.std.specs.Prelude.{◌≡◌, ◌≢◌, ℕ, List, [], Option, None}
+use Rattle.std.specs.Prelude.{◌≡◌, ◌≢◌, ℕ, List, [], None}
+use Rattle.awk_world.specs.declared.failure.Failure.{Failure}
 use Rattle.awk_journal.specs.Adds.{Adds, with_log}
 use Rattle.awk_streams.specs.Log.{Event}
 use Rattle.awk_streams.specs.Oracle.{Oracle, IsConsistent, standing}
@@ -17,12 +18,12 @@ use Rattle.awk_semantics.specs.Failure.{Fails, effects_of, IsCutBetween}
 -- nothing was done in the world
 pub record IsUntouched (world : WorldState) : Type 0 where
   pub log : world.log ≡ []
-  pub first_failure : world.first_failure ≡ None
+  pub failures : world.failures ≡ []
 
 -- no memory was refused, and no write or flush failed
 pub record IsUndisturbed (world : WorldState) (result : Outcome) : Type 0 where
   pub memory : result ≢ Fault OutOfMemory
-  pub first_failure : world.first_failure ≡ None
+  pub failures : world.failures ≡ []
 
 -- A run of the items leaves what they mean. Some oracle is consistent with its log, which is in order and at whose end nothing stands
 -- open, however the run ended; and for each oracle that is:
@@ -37,7 +38,7 @@ pub record Runs (items : List Item) (start : StartValues) (limit : ℕ) (world :
   pub outputs : IsUndisturbed world result → (oracle : Oracle) → IsConsistent oracle world.log → outputs_of world.log ≡ (meaning_of items start oracle limit).outputs
   pub turn : IsUndisturbed world result → (oracle : Oracle) → IsConsistent oracle world.log → IsInTurn oracle (meaning_of items start oracle limit) world.log
   pub failure : Fails (λ oracle. meaning_of items start oracle limit) world result
-  pub cut : world.first_failure ≡ None → result ≡ Fault OutOfMemory → (oracle : Oracle) → IsConsistent oracle world.log → IsCutBetween oracle (effects_of items start oracle limit) world.log
+  pub cut : world.failures ≡ [] → result ≡ Fault OutOfMemory → (oracle : Oracle) → IsConsistent oracle world.log → IsCutBetween oracle (effects_of items start oracle limit) world.log
 
 -- from a world in which nothing was done, a run leaves what the items mean
 pub record RunsFrom (is_logged : Type 0) (items : List Item) (start : StartValues) (limit : ℕ) (before after : WorldState) (result : Outcome) : Type 0 where
@@ -46,6 +47,6 @@ pub record RunsFrom (is_logged : Type 0) (items : List Item) (start : StartValue
 -- from any world, what a run adds to the log and to the failures that stood there is what the items mean
 pub record RunsSince (is_logged : Type 0) (items : List Item) (start : StartValues) (limit : ℕ) (before after : WorldState) (result : Outcome) : Type 0 where
   pub log : List Event
-  pub first_failure : Option ℕ
-  pub adds : is_logged → Adds before log first_failure after
-  pub runs : Runs items start limit (with_log after.is_open log first_failure) result
+  pub failures : List Failure
+  pub adds : is_logged → Adds before log failures after
+  pub runs : Runs items start limit (with_log after.is_open log failures) result

@@ -17,8 +17,8 @@ finish-finished-requires g c = record {
 pub returns : goal.returns
 returns g c = λ items program.
     runs_from items _ _ _ c.some_oracle_is_consistent.ensures.some c.law_of_ends.ensures (plan_for program c.in-Ok.ensures) (functions_for _ program) (begins_by c.args.start.now program c.in-Ok.ensures)
-    (rw c.deref.ensures.value at c.assign_and_run-ended.ensures.follows) c.finish-finished.ensures.sound c.finish-finished.ensures.told c.finish-finished.ensures.fault (rw c.outcome_of.ensures at c.outcome_after-outcome.ensures)
+    (rw c.deref.ensures.value at c.assign_and_run-ended.ensures.follows) c.finish-finished.ensures.sound c.finish-finished.ensures.told (rw c.outcome_of.ensures at c.outcome_after-outcome.ensures)
 
 pub returns-in_default : goal.returns-in_default
 returns-in_default g c = λ items program.
-    runs_not items _ _ c.some_oracle_is_consistent.ensures.some c.law_of_ends.ensures c.end_without_streams.ensures.told c.end_without_streams.ensures.orderly c.end_without_streams.ensures.fault
+    runs_not items _ _ c.some_oracle_is_consistent.ensures.some c.law_of_ends.ensures c.end_without_streams.ensures.told c.end_without_streams.ensures.orderly
