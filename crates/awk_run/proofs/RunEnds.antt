@@ -1,6 +1,5 @@
 -- What the end of a run leaves, after a body that ended well or by a failure.
-use Rattle.std.proofs.Common.{◌≡◌, ◌≢◌, ◌⊎◌, inl, inr, ℕ, zero, suc, ◌+◌, ◌-◌, ◌≤◌, List, [], ◌∷◌, ◌++◌, length, take, drop, Some, Result, Ok, Err, true, refl, sym, ap, ◌∙◌, subst, append-nil, arith}
-use Rattle.std.specs.Prelude.{All}
+use Rattle.std.proofs.Common.{◌≡◌, ◌≢◌, ◌⊎◌, inl, inr, ℕ, zero, suc, ◌+◌, ◌-◌, ◌≤◌, List, [], ◌∷◌, ◌++◌, length, take, drop, Some, Result, Ok, Err, true, refl, sym, ap, ◌∙◌, subst, arith}
 use Rattle.std.proofs.lemmas.List.{take-append-drop, length-take-le}
 use Rattle.std.proofs.lemmas.Option.{same_Some}
 use Rattle.awk_world.specs.declared.failure.Failure.{Failure}
@@ -16,7 +15,7 @@ use Rattle.awk_streams.specs.Grows.{Grows}
 use Rattle.awk_streams.specs.WorldState.{WorldState, is_any, first_behind, first_of}
 use Rattle.awk_streams.specs.Streams.{StreamsView, printed_openings, numbered, AreBringing}
 use Rattle.awk_streams.specs.Commands.{Finishes, AreOfTheEnd}
-use Rattle.awk_streams.proofs.GrowsLemmas.{with_events-append}
+use Rattle.awk_streams.proofs.GrowsLemmas.{with_events-append, first_stays, first_between}
 use Rattle.awk_streams.proofs.ViewLemmas.{not_marked}
 use Rattle.awk_semantics.specs.declared.halt.Halt.{Halt}
 use Rattle.awk_semantics.specs.declared.halt.Halt.TheVariants as halt
@@ -143,23 +142,7 @@ in_turn oracle k1 k2 streams last ended o told meant =
       brought = brought oracle k1 k2 streams last ended o told meant;
     }
 
--- the first failure of a list
-
-behind_last : (g : Failure) (newer : List Failure) (f : Failure) → first_behind g (newer ++ f ∷ []) ≡ f
-behind_last g [] f = refl
-behind_last g (h ∷ newer) f = behind_last h newer f
-
-first_last : (newer : List Failure) (f : Failure) → first_of (newer ++ f ∷ []) ≡ Some f
-first_last [] f = refl
-first_last (g ∷ newer) f = ap (λ (x : Failure). Some x) (behind_last g newer f)
-
-behind_among : (P : Failure → Type 0) (f : Failure) (fs : List Failure) → P f → All P fs → P (first_behind f fs)
-behind_among P f [] h hs = h
-behind_among P f (g ∷ fs) h hs = behind_among P g fs hs.0 hs.1
-
-first_among : (P : Failure → Type 0) (fs : List Failure) (g : Failure) → first_of fs ≡ Some g → All P fs → P g
-first_among P [] g is hs = absurd (cc)
-first_among P (f ∷ fs) g is hs = subst P (same_Some (first_behind f fs) g is) (behind_among P f fs hs.0 hs.1)
+-- failures of the world
 
 none_first : (fs : List Failure) (g : Failure) → fs ≡ [] → first_of fs ≡ Some g → ⊥
 none_first [] g none is = absurd (cc)
@@ -169,13 +152,13 @@ pub not_clear : (what : WorldFault) (k : WorldState) → FailedLast what k → k
 not_clear what k last clear = not_marked k.failures (ap is_any last.1) clear
 
 -- the one failure stays the first
-first_stays : {k1 k2 : WorldState} (what : WorldFault) (last : FailedLast what k1) → Grows k1 k2 → first_of k2.failures ≡ Some (record { at = length k1.log; output = last.0; what = what })
-first_stays {k1 = k1} what last grows =
-    ap first_of grows.failures ∙ (ap (λ (fs : List Failure). first_of (grows.newer ++ fs)) last.1 ∙ first_last grows.newer (record { at = length k1.log; output = last.0; what = what }))
+last_stays : {k1 k2 : WorldState} (what : WorldFault) (last : FailedLast what k1) → Grows k1 k2 → first_of k2.failures ≡ Some (record { at = length k1.log; output = last.0; what = what })
+last_stays {k1 = k1} what last grows =
+    ap first_of grows.failures ∙ (ap (λ (fs : List Failure). first_of (grows.newer ++ fs)) last.1 ∙ first_stays (record { at = length k1.log; output = last.0; what = what }) grows.newer)
 
 first_is : {k1 k2 : WorldState} (what : WorldFault) (g : Failure) → (last : FailedLast what k1) → Grows k1 k2 → first_of k2.failures ≡ Some g → (g.at ≡ length k1.log) × (g.what ≡ what)
 first_is {k1 = k1} {k2 = k2} what g last grows first =
-    let same : g ≡ record { at = length k1.log; output = last.0; what = what } = same_Some g (record { at = length k1.log; output = last.0; what = what }) (sym first ∙ first_stays {k1 = k1} {k2 = k2} what last grows) in
+    let same : g ≡ record { at = length k1.log; output = last.0; what = what } = same_Some g (record { at = length k1.log; output = last.0; what = what }) (sym first ∙ last_stays {k1 = k1} {k2 = k2} what last grows) in
     (ap (λ (f : Failure). f.at) same, ap (λ (f : Failure). f.what) same)
 
 -- an end that failed, or a body
@@ -239,9 +222,7 @@ with_events-length [] log = omega arith
 with_events-length (e ∷ es) log = let rest = with_events-length es (e ∷ log) in omega (arith, rest)
 
 bounds : (k1 k2 : WorldState) (es : List Event) (log : List Event) (g : Failure) → Grows k1 k2 → log ≡ with_events es k1.log → (k1.failures ≡ [] → first_of k2.failures ≡ Some g → g.at ≤ length log) → FailedAtMostOnce k1 → first_of k2.failures ≡ Some g → (length k1.log ≤ g.at) × (g.at ≤ length log)
-bounds k1 k2 es log g grows is early (inl none) first =
-    let newer : first_of grows.newer ≡ Some g = sym (ap first_of (grows.failures ∙ (ap (λ (fs : List Failure). grows.newer ++ fs) none ∙ append-nil grows.newer))) ∙ first in
-    ((first_among (λ (f : Failure). (length k1.log ≤ f.at) × (f.at ≤ length k2.log)) grows.newer g newer grows.met).0, early none first)
+bounds k1 k2 es log g grows is early (inl none) first = ((first_between {before = k1} {after = k2} g grows none first).0, early none first)
 bounds k1 k2 es log g grows is early (inr last) first =
     let at : g.at ≡ length k1.log = (first_is {k1 = k1} {k2 = k2} last.0 g last.1 grows first).0 in
     let long : length log ≡ length es + length k1.log = ap length is ∙ with_events-length es k1.log in
@@ -322,7 +303,7 @@ pub write_blamed : (oracle : Oracle) (k1 k2 : WorldState) (streams last : Stream
 write_blamed oracle k1 k2 streams last ended f o told (inl meant) result = end_wrote ended f told meant.clear meant.no_write result
 write_blamed oracle k1 k2 streams last ended f o told (inr cut) result = elim cut.cause [
   | inl memory ↦ let bad : Fault faults.OutOfMemory ≡ Fault faults.WriteFailed = sym (halted_by faults.OutOfMemory ended f memory) ∙ result in absurd (cc)
-  | inr write ↦ (record { at = length k1.log; output = write.1.0; what = Failed }, first_stays {k1 = k1} {k2 = k2} Failed write.1 told.grows, refl)
+  | inr write ↦ (record { at = length k1.log; output = write.1.0; what = Failed }, last_stays {k1 = k1} {k2 = k2} Failed write.1 told.grows, refl)
 ]
 
 pub fails_at : (out_by : Oracle → Out (Unit {0})) (k1 k2 : WorldState) (streams last : StreamsView) (ended : Outcome) (f : Result (Unit {0}) StreamFault) (g : Failure) → Finishes k1 streams f k2 last → ((oracle : Oracle) → AreUnended (out_by oracle).effects) →
