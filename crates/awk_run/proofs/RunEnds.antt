@@ -75,7 +75,7 @@ outcome_by (halt.Fault faults.OutOfMemory) reason status e = absurd (cc)
 outcome_by (halt.Fault faults.WriteFailed) reason status e = absurd (cc)
 outcome_by (halt.Fault f) reason status e = let s : halt.Fault f ≡ reason = cc in ap (λ (x : Halt). outcome_of (Err x) status) (sym s)
 
--- and it is no failed write
+-- such an outcome is no failed write
 not_written : (h reason : Halt) (status : ℕ) → sort_of h ≡ OfLanguage reason → outcome_of (Err h) status ≢ Fault faults.WriteFailed
 not_written halt.OutOfSteps reason status e = λ (is : Stopped ≡ Fault faults.WriteFailed). absurd (cc)
 not_written halt.Next reason status e = λ (is : Fault faults.NextWithoutRecord ≡ Fault faults.WriteFailed). absurd (cc)
@@ -196,12 +196,12 @@ fails_by : (oracle : Oracle) (meaning : Meaning) (l : List Event) (ended : Outco
 fails_by oracle meaning l ended (Ok u) {k' = k'} g told clear first outcome settled = absurd (none_first k'.failures g (told.no_failure ∙ clear) first)
 fails_by oracle meaning l ended (Err e) g told clear first outcome settled = end_fails oracle meaning l ended e g.what (told.blames g clear first) outcome settled
 
--- a failed write that the end came to
+-- the failure that the end comes to as a failed write is one
 written : (e : StreamFault) (what : WorldFault) → e ≡ output_fault_of what → Fault (stream_fault e) ≡ Fault faults.WriteFailed → what ≡ Failed
 written e Memory is result = let bad : Fault faults.OutOfMemory ≡ Fault faults.WriteFailed = sym (own_failure e Memory is) ∙ result in absurd (cc)
 written e Failed is result = refl
 
--- was the first failure
+-- a failed write or flush came first
 abbrev pub WriteFirst : List Failure → Type 0
 WriteFirst fs = (g : Failure) × (first_of fs ≡ Some g) × (g.what ≡ Failed)
 
