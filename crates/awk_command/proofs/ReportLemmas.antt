@@ -36,7 +36,7 @@ not_longer older newer more same =
 
 all_unless_failed : (line : List ℕ) (k k' : WorldState) (r : Result (Unit {0}) StreamFault) (w : WritesAll 1 line k r k') → k'.failures ≡ k.failures → w.count ≡ length line
 all_unless_failed line k k' (Ok u) w same = w.all
-all_unless_failed line k k' (Err e) w same = absurd (not_longer k.failures k'.failures w.fails.1.1 same)
+all_unless_failed line k k' (Err e) w same = absurd (not_longer k.failures k'.failures w.fails.2 same)
 
 -- a line of which a part was written
 pub says_part : (line : List ℕ) (k k' : WorldState) (r : Result (Unit {0}) StreamFault) → is_err r ≡ true → WritesAll 1 line k r k' → ReportsLine line k k'
@@ -44,7 +44,7 @@ says_part line k k' (Ok u) e w = absurd (cc)
 says_part line k k' (Err fault) e w = record {
   count = w.count;
   writes = subst (λ (bs : List ℕ). GoesOn (Writes 1 bs) k.log k'.log) (sym (take-append-le w.count line (10 ∷ []) w.within)) w.writes;
-  all = λ same. absurd (not_longer k.failures k'.failures w.fails.1.1 same);
+  all = λ same. absurd (not_longer k.failures k'.failures w.fails.2 same);
 }
 
 -- a line that was written, and then its newline or not
