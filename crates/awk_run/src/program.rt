@@ -1,6 +1,6 @@
 // The program of a text, and its runs.
 
-ghost use Rattle.std.specs.Prelude.{◌≡◌, ℕ, List, [], None, IfOk, IfErr, OnErr};
+ghost use Rattle.std.specs.Prelude.{◌≡◌, ℕ, List, [], IfOk, IfErr, OnErr};
 ghost use Rattle.awk_journal.specs.Adds.{Adds};
 ghost use Rattle.awk_lex.specs.Refused.{IsOutOfMemory};
 ghost use Rattle.awk_grammar.specs.Tree.{Item};
@@ -63,7 +63,7 @@ fn run_logged<W: World, B: Beginning, T: Watch>(
 ) -> (W, (Outcome, u64, u64))
     requires program { IsRead program.now }
     requires placed { W.place world ≡ B.place }
-    requires tied { W.is_logged → Adds B.state [] None (W.state world) }
+    requires tied { W.is_logged → Adds B.state [] [] (W.state world) }
     ensures placed { W.place result.0 ≡ B.place }
     ensures since { (items : List Item) → Holds items program.now →
         RunsSince W.is_logged items (start_values start.now) limit B.state (W.state result.0) result.1.0 }
