@@ -76,7 +76,29 @@ class Writer(Rules):
         body = self.pick([f"print {k}, {name}[{k}]", f"printf \"%s=%d;\", {k}, {name}[{k}]", f"if ({name}[{k}] > 1) print {name}[{k}]"])
         return f"for ({k} in {name}) {body}" if self.chance(2) else f"for ({k} in {name}) {{ {body}; {self.shown(depth - 1)} }}"
 
+    def changed(self, depth):
+        """What END changes, or repeats, or ends with."""
+        kind, times = self.numbers.randrange(7), self.numbers.randint(0, 3)
+        place = self.element(0) if self.arrays and self.chance(2) else self.pick(["x", "y"] + self.sums)
+        if kind == 0 and self.arrays:
+            return f"delete {self.pick([self.element(0), self.pick(self.arrays)])}"
+        if kind == 1 and depth > 0:
+            i = self.pick([f"i{depth}"] + (self.variables if depth == 2 else []))
+            return f"for ({i} = 0; {i} < {times}; {i}++) {self.all_shown(depth - 1)}"
+        if kind == 2 and depth > 0:
+            return f"{{ w{depth} = {times}; while (w{depth}-- > 0) {self.all_shown(depth - 1)} }}"
+        if kind == 3 and depth > 0:
+            return f"{{ d{depth} = 0; do {{ {self.shown(depth - 1)}; {self.pick(['break', 'continue', ';'])} }} while (++d{depth} < {times}) }}"
+        if kind == 4:
+            name = self.pick(self.variables)
+            return f"{{ {name} = {self.of_sums(1)}; {name} = {name} \"-\"; print {name}, {self.of_sums(1)} }}"
+        if kind == 5 and self.chance(3):
+            return f"if ({self.of_sums(1)}) exit {self.pick(['', self.of_sums(1)])}"
+        return self.pick([f"{place} {self.pick(['', '+', '-', '*'])}= {self.of_sums(1)}", f"{place}++", f"print --{place}, {place}"])
+
     def shown(self, depth):
+        if self.chance(4):
+            return self.changed(depth)
         kind = self.numbers.randrange(6)
         if kind == 0 and depth > 0 and self.arrays:
             return self.walk(depth)

@@ -160,24 +160,43 @@ impl<'a> MergingScan<'a> {
         }
     }
 
-    /// Whether a name in END is read there as the last record left it.
-    fn is_read_of_record(&self, at: usize, name: &[u8]) -> bool {
-        self.is_own(name) && !self.statements.gets_keys(at) && !self.statements.was_set(name)
+    /// Whether a name in END has there what the last record left in it: the last part of a `for` sets a name too, and
+    /// makes nothing known.
+    fn is_of_record(&self, at: usize, name: &[u8]) -> bool {
+        let is_last = matches!(kind_before(self.tokens, at, 1), Some(Kind::Semicolon))
+            && matches!(
+                kind_behind(self.tokens, at, 1),
+                Some(Kind::Assign(AssignmentOperator::Plain))
+            );
+        let is_set_here = self.statements.gets_keys(at)
+            || self.statements.sets_in_end(at, name)
+            || is_last;
+        self.is_own(name) && !is_set_here && !self.statements.was_set(name)
+    }
+
+    /// Whether a name in END is an array's.
+    fn is_array(&self, at: usize) -> bool {
+        let is_behind = matches!(
+            kind_before(self.tokens, at, 1),
+            Some(Kind::Keyword(Keyword::In | Keyword::Delete))
+        );
+        is_behind || matches!(kind_behind(self.tokens, at, 1), Some(Kind::OpenBracket))
     }
 
     /// Why a name in END is a reason.
     fn reason_in_end(&self, at: usize, name: &[u8]) -> &'static [u8] {
-        if is_set(self.tokens, at) {
-            return b" is assigned in END";
-        }
         if tells_apart(name) || name == b"NF".as_slice() {
             return b" is read in END";
         }
-        let is_element = matches!(kind_behind(self.tokens, at, 1), Some(Kind::OpenBracket));
+        let gets_keys = self.statements.gets_keys(at);
+        if is_of_awk(name) && (is_set(self.tokens, at) || gets_keys) {
+            return b" is awk's own, and set in END";
+        }
         match self.sum_of(name) {
             Some(Sum::ByKey(_)) => b"",
-            _ if is_element => b" is an array that is not summed up",
-            _ if self.is_read_of_record(at, name) => b" is set for each record, and read in END",
+            _ if self.is_array(at) => b" is an array that is not summed up",
+            Some(Sum::Alone(_)) if gets_keys => b" is summed up, and gets keys in END",
+            _ if self.is_of_record(at, name) => b" is set for each record, and read in END",
             _ => b"",
         }
     }
@@ -199,11 +218,9 @@ impl<'a> MergingScan<'a> {
     /// Why a keyword in END is a reason.
     fn reason_of_keyword_in_end(&self, at: usize, keyword: Keyword) -> &'static [u8] {
         match keyword {
-            Keyword::If | Keyword::Else | Keyword::In => b"",
-            Keyword::For => match kind_behind(self.tokens, at, 3) {
-                Some(Kind::Keyword(Keyword::In)) => b"",
-                _ => b" in END, where it may go over the keys of a sum alone",
-            },
+            Keyword::If | Keyword::Else | Keyword::While | Keyword::Do | Keyword::For => b"",
+            Keyword::In | Keyword::Break | Keyword::Continue => b"",
+            Keyword::Delete | Keyword::Exit => b"",
             Keyword::Print | Keyword::Printf => match kind_behind(self.tokens, at, 1) {
                 Some(Kind::Newline | Kind::Semicolon | Kind::CloseBrace) => {
                     b" without a list, in END"

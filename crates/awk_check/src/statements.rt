@@ -26,7 +26,7 @@ struct Scope {
     set: usize,
 }
 
-/// A scan of statements, which keeps the names that rules set by statements of their own.
+/// A scan of statements, which keeps the names that rules and END set by statements of their own.
 #[derive(Drop)]
 pub(crate) struct StatementScan<'a> {
     tokens: &'a [Token],
@@ -115,15 +115,24 @@ impl<'a> StatementScan<'a> {
         }
     }
 
-    /// Whether a rule sets the name at a token by a statement of its own, or as a `for` begins, and it isn't one
-    /// of awk's.
-    pub(crate) fn sets(&self, at: usize, name: &[u8]) -> bool {
+    /// Whether a statement of its own, or a `for` as it begins, sets the name at a token, and it isn't one of awk's.
+    fn is_setting(&self, at: usize, name: &[u8]) -> bool {
         let is_plain = matches!(
             kind_behind(self.tokens, at, 1),
             Some(Kind::Assign(AssignmentOperator::Plain))
         );
         let may_set = self.begins || begins_for(self.tokens, at);
-        self.items.part == Part::Rule && is_plain && may_set && !is_of_awk(name)
+        is_plain && may_set && !is_of_awk(name)
+    }
+
+    /// Whether a rule sets the name at a token so.
+    pub(crate) fn sets(&self, at: usize, name: &[u8]) -> bool {
+        self.items.part == Part::Rule && self.is_setting(at, name)
+    }
+
+    /// Whether END sets the name at a token so.
+    pub(crate) fn sets_in_end(&self, at: usize, name: &[u8]) -> bool {
+        self.items.part == Part::End && self.is_setting(at, name)
     }
 
     /// Whether the name at a token gets the keys of an array.
@@ -267,7 +276,7 @@ impl<'a> StatementScan<'a> {
     pub(crate) fn step(&mut self, at: usize, kind: &Kind) -> Result<(), AllocError> {
         self.begins = match kind {
             Kind::Name(name) => {
-                if self.sets(at, name.as_slice()) {
+                if self.sets(at, name.as_slice()) || self.sets_in_end(at, name.as_slice()) {
                     self.setting = Some(at);
                 }
                 if self.gets_keys(at) {

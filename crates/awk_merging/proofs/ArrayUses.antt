@@ -12,7 +12,7 @@ use Rattle.awk_grammar.specs.Tree.{Expr, Number, String, Ere, Name, Element, Fie
 use Rattle.awk_pieces.specs.definitions.Pieceable.{no_own, may_be_called, keeps_to_record, all_keep_to_record, may_keep_to_record, is_of_record, is_own_place, sets_own, name_set_first, also, behind, is_plain, may_be_set, is_setting, is_simple_setting, only_sets, all_only_set, pattern_keeps_to_record}
 use Rattle.awk_pieces.proofs.ReadsAlike.{left_true, right_true}
 use Rattle.awk_merging.specs.definitions.Sums.{Sum, is_taken}
-use Rattle.awk_merging.specs.definitions.Mergeable.{is_plus, is_plus_one, is_array_sum, knows, is_of_values, is_standard, is_sum, is_sum_place, is_addition, is_simple_summing, is_part_summing, only_sums, all_only_sum, shows, reads_sums, all_read_sums, are_printed, is_printed, is_simple_print, only_prints, all_only_print, is_mergeable_item, are_mergeable}
+use Rattle.awk_merging.specs.definitions.Mergeable.{is_plus, is_plus_one, is_array_sum, knows, is_of_values, is_standard, is_sum, is_sum_place, is_addition, is_simple_summing, is_part_summing, only_sums, all_only_sum, shows, is_free, is_changeable, reads_sums, all_read_sums, may_read_sums, are_printed, is_printed, sets_free, is_simple_of_end, is_part_of_end, only_prints, all_only_print, is_mergeable_item, are_mergeable}
 
 abbrev plain : Scope
 plain = outside_functions
@@ -322,12 +322,14 @@ module _ (own : List ℕ → Bool) (xs : List Sum) where
       shown (BuiltIn f es) is = split_and (split_into plain f es) (uses_in_list plain es) (no_split_of_values f es (left_true (is_of_values f es) _ is)) (all_shown es (right_true (is_of_values f es) _ is))
       shown (Membership e a) is = both (uses_in_expr plain e) (Used (Global a) ∷ []) (shown e (right_true (is_array_sum xs a) _ is)) (left_true (is_array_sum xs a) _ is, tt)
       shown (ListMembership es a) is = both (uses_in_list plain es) (Used (Global a) ∷ []) (all_shown es (right_true (is_array_sum xs a) _ is)) (left_true (is_array_sum xs a) _ is, tt)
+      shown (PreIncrement o p) is = shown p (right_true (is_changeable p) _ is)
+      shown (PostIncrement o p) is = shown p (right_true (is_changeable p) _ is)
+      shown (Assign o p e) is =
+          let rest = right_true (is_changeable p) _ is in
+          both (uses_in_expr plain p) (uses_in_expr plain e) (shown p (left_true (reads_sums xs visible p) _ rest)) (shown e (right_true (reads_sums xs visible p) _ rest))
       shown (Ere text) is = absurd (cc)
       shown Length is = absurd (cc)
       shown (Field e) is = absurd (cc)
-      shown (PreIncrement o p) is = absurd (cc)
-      shown (PostIncrement o p) is = absurd (cc)
-      shown (Assign o p e) is = absurd (cc)
       shown (Call c es) is = absurd (cc)
       shown (Getline p file) is = absurd (cc)
       shown (PipedGetline c p) is = absurd (cc)
@@ -348,22 +350,40 @@ module _ (own : List ℕ → Bool) (xs : List Sum) where
     standard Standard is = tt
     standard (Redirected way e) is = absurd (cc)
 
-    simple_prints : (simple : SimpleStatement) → is_simple_print xs visible simple ≡ true → Fine (uses_in_simple plain simple)
-    simple_prints (Print form list output) is = both (uses_in_print_list plain list) (uses_in_output plain output) (listed list (left_true (is_printed xs visible list) _ is)) (standard output (right_true (is_printed xs visible list) _ is))
-    simple_prints (Expression e) is = absurd (cc)
-    simple_prints Next is = absurd (cc)
-    simple_prints (Delete x es) is = absurd (cc)
-    simple_prints (DeleteAll x) is = absurd (cc)
-    simple_prints NextFile is = absurd (cc)
-    simple_prints Break is = absurd (cc)
-    simple_prints Continue is = absurd (cc)
-    simple_prints (Exit e) is = absurd (cc)
-    simple_prints (Return e) is = absurd (cc)
+    optional_shown : (e : OptionalExpr) → may_read_sums xs visible e ≡ true → Fine (uses_in_optional_expr plain e)
+    optional_shown NoExpr is = tt
+    optional_shown (AnExpr e) is = shown e is
+
+    free_placed : (place : Expr) → is_free place ≡ true → Fine (uses_in_expr plain place)
+    free_placed (Name x) is = tt
+    free_placed place is = absurd (cc)
+
+    free_set : (e : Expr) → sets_free xs visible e ≡ true → Fine (uses_in_expr plain e)
+    free_set (Assign o p e) is =
+        let rest = right_true (is_plain o) _ is in
+        both (uses_in_expr plain p) (uses_in_expr plain e) (free_placed p (left_true (is_free p) _ rest)) (shown e (right_true (is_free p) _ rest))
+    free_set e is = absurd (cc)
+
+    simple_ends : (simple : SimpleStatement) → is_simple_of_end xs visible simple ≡ true → Fine (uses_in_simple plain simple)
+    simple_ends (Expression e) is = elim (or_cases (sets_free xs visible e) (reads_sums xs visible e) is) [ inl sets ↦ free_set e sets | inr reads ↦ shown e reads ]
+    simple_ends (Print form list output) is = both (uses_in_print_list plain list) (uses_in_output plain output) (listed list (left_true (is_printed xs visible list) _ is)) (standard output (right_true (is_printed xs visible list) _ is))
+    simple_ends (Delete a es) is = (left_true (is_array_sum xs a) _ is, all_shown es (right_true (is_array_sum xs a) _ is))
+    simple_ends (DeleteAll a) is = (is, tt)
+    simple_ends (Exit e) is = optional_shown e is
+    simple_ends Break is = tt
+    simple_ends Continue is = tt
+    simple_ends Next is = absurd (cc)
+    simple_ends NextFile is = absurd (cc)
+    simple_ends (Return e) is = absurd (cc)
+
+    part_ends : (part : OptionalSimple) → is_part_of_end xs visible part ≡ true → Fine (uses_in_optional_simple plain part)
+    part_ends NoSimple is = tt
+    part_ends (ASimple simple) is = simple_ends simple is
 
   mutual
     end : (visible : List ℕ → Bool) (s : Statement) → only_prints own xs visible s ≡ true → Fine (uses_in_statement plain s)
     end visible Empty is = tt
-    end visible (Simple simple) is = simple_prints visible simple is
+    end visible (Simple simple) is = simple_ends visible simple is
     end visible (Block all) is = ends visible all is
     end visible (If c s) is = both (uses_in_expr plain c) (uses_in_statement plain s) (shown visible c (left_true (reads_sums xs visible c) _ is)) (end visible s (right_true (reads_sums xs visible c) _ is))
     end visible (IfElse c s other) is =
@@ -373,13 +393,20 @@ module _ (own : List ℕ → Bool) (xs : List Sum) where
     end visible (ForIn x a s) is =
         let rest = right_true (not (is_taken x || is_sum xs x)) _ is in
         (left_true (is_array_sum xs a) _ rest, end (also own (Some x) visible) s (right_true (is_array_sum xs a) _ rest))
-    end visible (While c s) is = absurd (cc)
-    end visible (Do s c) is = absurd (cc)
-    end visible (For first c last s) is = absurd (cc)
+    end visible (While c s) is = both (uses_in_expr plain c) (uses_in_statement plain s) (shown visible c (left_true (reads_sums xs visible c) _ is)) (end visible s (right_true (reads_sums xs visible c) _ is))
+    end visible (Do s c) is = both (uses_in_statement plain s) (uses_in_expr plain c) (end visible s (right_true (reads_sums xs visible c) _ is)) (shown visible c (left_true (reads_sums xs visible c) _ is))
+    end visible (For first c last s) is =
+        let more = also own (name_set_first first) visible in
+        let loop = right_true (is_part_of_end xs visible first) _ is in
+        let parts = right_true (may_read_sums xs more c) _ loop in
+        let body = uses_in_statement plain s in
+        both (uses_in_optional_simple plain first) (uses_in_optional_expr plain c ++ (uses_in_optional_simple plain last ++ body)) (part_ends visible first (left_true (is_part_of_end xs visible first) _ is))
+        (both (uses_in_optional_expr plain c) (uses_in_optional_simple plain last ++ body) (optional_shown more c (left_true (may_read_sums xs more c) _ loop))
+        (both (uses_in_optional_simple plain last) body (part_ends more last (left_true (is_part_of_end xs more last) _ parts)) (end more s (right_true (is_part_of_end xs more last) _ parts))))
 
     ends : (visible : List ℕ → Bool) (all : Statements) → all_only_print own xs visible all ≡ true → Fine (uses_in_block plain all)
     ends visible NoMore is = tt
-    ends visible (Then s all) is = both (uses_in_statement plain s) (uses_in_block plain all) (end visible s (left_true (only_prints own xs visible s) _ is)) (ends visible all (right_true (only_prints own xs visible s) _ is))
+    ends visible (Then s all) is = both (uses_in_statement plain s) (uses_in_block plain all) (end visible s (left_true (only_prints own xs visible s) _ is)) (ends (behind own s visible) all (right_true (only_prints own xs visible s) _ is))
 
   -- items
 

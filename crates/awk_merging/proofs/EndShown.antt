@@ -1,56 +1,123 @@
 -- END on two states in which all is the same that it may read.
-use Rattle.std.proofs.Common.{◌≡◌, ◌≢◌, inl, inr, ℕ, ◌+◌, ◌-◌, ◌≤◌, Bool, true, false, ◌||◌, not, List, [], ◌∷◌, ◌++◌, length, Option, Some, None, Result, Ok, Err, refl, sym, ap, ◌∙◌, subst, arith, codes, bytes_eq, map, slice_set}
-use Rattle.std.specs.Prelude.{is_some}
+use Rattle.std.proofs.Common.{◌≡◌, ◌≢◌, inl, inr, ℕ, suc, ℤ, ◌+◌, ◌-◌, ◌≤◌, Bool, true, false, ◌||◌, not, if◌then◌else◌, List, [], ◌∷◌, ◌++◌, length, Option, Some, None, Result, Ok, Err, refl, sym, ap, ◌∙◌, subst, arith, codes, bytes_eq, map}
+use Rattle.std.specs.Prelude.{is_some, unwrap_or}
 use Rattle.std.specs.Map.{keys_of}
-use Rattle.std.proofs.lemmas.Bool.{cases_lt}
+use Rattle.std.proofs.lemmas.Bool.{cases_Bool, cases_lt, or_cases}
+use Rattle.std.proofs.lemmas.Slice.Eq.{bytes_eq-Decides}
 use Rattle.awk_value.specs.declared.value.Value.{Value}
 use Rattle.awk_value.specs.declared.value.Value.TheVariants as value
-use Rattle.awk_value.specs.Arrays.{Array, value_at, with_key}
-use Rattle.awk_value.specs.Values.{str_of}
+use Rattle.awk_value.specs.Arrays.{Array, value_at, with_key, with_pair, without}
+use Rattle.awk_value.specs.Values.{str_of, num_of}
 use Rattle.awk_kinds.specs.Names.{has_name}
+use Rattle.awk_lex.specs.declared.token.AssignmentOperator.{AssignmentOperator}
+use Rattle.awk_lex.specs.declared.token.AssignmentOperator.TheVariants as assignment
+use Rattle.awk_lex.specs.declared.token.IncrementOperator.{IncrementOperator}
+use Rattle.awk_lex.specs.declared.token.Operator.{Operator}
 use Rattle.awk_lex.specs.declared.token.BuiltIn.{BuiltIn as BuiltInName}
 use Rattle.awk_lex.specs.declared.token.BuiltIn.TheVariants as builtin
 use Rattle.awk_grammar.specs.declared.tree.PrintForm.{PrintForm}
 use Rattle.awk_grammar.specs.declared.tree.PrintForm.TheVariants as form
-use Rattle.awk_grammar.specs.Tree.{Expr, Number, String, Ere, Name, Element, Field, Group, Call, BuiltIn, Length, PreIncrement, PostIncrement, Getline, PipedGetline, Unary, Binary, Membership, ListMembership, Conditional, Assign, Exprs, Nil, Cons, PrintList, Bare, Parenthesized, Output, Standard, Redirected, SimpleStatement, Expression, Print, Delete, DeleteAll, Next, NextFile, Break, Continue, Exit, Return, Statement, Empty, Simple, Block, If, IfElse, While, Do, ForIn, For, Statements, NoMore, Then, Item, Begin, End, Action, PatternAction, PatternOnly, Function}
+use Rattle.awk_grammar.specs.Tree.{Expr, Number, String, Ere, Name, Element, Field, Group, Call, BuiltIn, Length, PreIncrement, PostIncrement, Getline, PipedGetline, Unary, Binary, Membership, ListMembership, Conditional, Assign, Exprs, Nil, Cons, OptionalExpr, NoExpr, AnExpr, PrintList, Bare, Parenthesized, Output, Standard, Redirected, SimpleStatement, Expression, Print, Delete, DeleteAll, Next, NextFile, Break, Continue, Exit, Return, OptionalSimple, NoSimple, ASimple, Statement, Empty, Simple, Block, If, IfElse, While, Do, ForIn, For, Statements, NoMore, Then, Item, Begin, End, Action, PatternAction, PatternOnly, Function}
 use Rattle.awk_semantics.specs.declared.flow.Flow.{Flow}
 use Rattle.awk_semantics.specs.declared.flow.Flow.TheVariants as flow
 use Rattle.awk_semantics.specs.declared.halt.Halt.{Halt}
 use Rattle.awk_semantics.specs.declared.halt.Halt.TheVariants as halt
 use Rattle.awk_semantics.specs.definitions.State.{Printed, State, Out, Run, go_on, ◌>>=◌, lift, ret}
-use Rattle.awk_semantics.specs.definitions.Operators.{changed, join, line_of, takes_pattern}
-use Rattle.awk_semantics.specs.definitions.Primitives.{read_name, read_element, read_element_at, has_element, has_element_at, keys_in, keys_at, joined_key, number_in, array_in, is_array, array_length, array_length_at, print_bytes, print_line, format_values}
+use Rattle.awk_semantics.specs.definitions.Operators.{changed, applied, by_one, one, operator_of, join, line_of, takes_pattern}
+use Rattle.awk_semantics.specs.definitions.Primitives.{number_of, read_name, read_element, read_element_at, store_element, store_element_at, delete_element, delete_element_at, clear_array, clear_array_at, has_element, has_element_at, keys_in, keys_at, joined_key, number_in, array_in, is_array, array_length, array_length_at, print_bytes, print_line, format_values, with_status, set_status}
+use Rattle.awk_semantics.specs.definitions.Faults.{of_values}
+use Rattle.awk_semantics.specs.definitions.Places.{Place, AName, AnElement, AField, read_place, store, assign, assign_by, post_increment}
 use Rattle.awk_semantics.specs.definitions.BuiltIns.{Role, AsValue, AsPattern, AsArray, AsPlace, AsMeasured, roles_of, Argument, OfValue, OfEre, OfArray, OfPlace, value_of, bare_name, array_or_value, array_named_or, applied_all, count_elements, apply_built_in}
-use Rattle.awk_semantics.specs.definitions.Semantics.{Functions, eval, key_of, take_arguments, eval_all, printed_values, target_of, print_by, print, begin_test, exec_simple, ending, turn, unless_ended, walk, pass_on, exec, exec_all}
+use Rattle.awk_semantics.specs.definitions.Semantics.{Functions, eval, place_of, key_of, take_arguments, eval_all, printed_values, target_of, print_by, print, begin_test, exit_with, exec_simple, exec_part, goes_on, turn, unless_ended, repeat_within, repeat, walk, pass_on, exec, exec_all}
 use Rattle.awk_semantics.specs.definitions.Items.{run_action, end_item, end_items}
 use Rattle.awk_semantics.specs.definitions.Meaning.{outcome_of}
-use Rattle.awk_pieces.specs.definitions.Pieceable.{tells_apart, also}
-use Rattle.awk_pieces.proofs.Alike.{Names}
-use Rattle.awk_pieces.proofs.LoopsAlike.{pass_alike, unless_alike, turn_alike}
+use Rattle.awk_pieces.specs.definitions.Pieceable.{no_own, is_plain, tells_apart, name_set, name_set_by, name_set_first, name_behind, also, behind}
+use Rattle.awk_pieces.proofs.Alike.{Names, Values, IsWithin}
+use Rattle.awk_pieces.proofs.LoopsAlike.{pass_alike, unless_alike, turn_alike, repeat_within_alike}
+use Rattle.awk_pieces.proofs.PlacesAlike.{known_before, within_also}
 use Rattle.awk_pieces.proofs.ReadsAlike.{left_true, right_true}
-use Rattle.awk_pieces.proofs.ValuesAndFaults.{changed_faults, format_faults, applied_all_faults}
+use Rattle.awk_pieces.proofs.ValuesAndFaults.{IsValueOrFault, of_values_faults, changed_faults, applied_faults, format_faults, applied_all_faults}
 use Rattle.awk_merging.specs.definitions.Sums.{Sum, is_taken}
-use Rattle.awk_merging.specs.definitions.Mergeable.{own_in, sums_of_program, is_sum, is_array_sum, is_derived, is_shown, shows, is_of_values, is_standard, reads_sums, all_read_sums, are_printed, is_printed, is_simple_print, only_prints, all_only_print, is_mergeable_item, are_mergeable}
+use Rattle.awk_merging.specs.definitions.Mergeable.{own_in, sums_of_program, is_sum, is_array_sum, is_derived, is_shown, shows, is_of_values, is_standard, is_free, is_changeable, reads_sums, all_read_sums, may_read_sums, are_printed, is_printed, sets_free, is_simple_of_end, is_part_of_end, only_prints, all_only_print, is_mergeable_item, are_mergeable}
 use Rattle.awk_merging.specs.definitions.LawOfEnd.{ShowAlike, EndAlike, LawOfEnd}
 use Rattle.awk_merging.proofs.EndArguments.{IsShownName, IsShownArgument, AreMeasured, AreTaken, is_length, Begun, all_taken, begun_on, begun_first, MayTake, may_take, AreSome, bare_shown}
-use Rattle.awk_merging.proofs.OwnVariables.{AreOwn, own_apart}
+use Rattle.awk_merging.proofs.OwnVariables.{AreOwn, not_true, own_apart}
 use Rattle.awk_merging.proofs.ProgramSums.{AreProper, proper_sums}
 use Rattle.awk_merging.proofs.Summing.{known_no_sum}
-use Rattle.awk_merging.proofs.Showing.{Any, at, at', Covers, Alike, then_with, then_alike, unmoved, lift_alike, ret_with, ret_alike, spend_alike, choose_alike, tested_alike, right_alike, combined_alike, array_shown, set_alike, Shows, shows_first, shows_also, named_then}
+use Rattle.awk_merging.proofs.Showing.{Any, at, at', Covers, Alike, alike_within, then_with, then_alike, Reads, unmoved, lift_alike, ret_with, ret_alike, spend_alike, choose_alike, tested_alike, right_alike, combined_alike, array_shown, array_put, put_alike, assigned_alike, Shows, shows_first, shows_also}
 
 no_left : (a b : Bool) → not (a || b) ≡ true → a ≡ false
 no_left true b e = cc
 no_left false b e = refl
 
+known_already : (own known : Names) (plain : Bool) (x : List ℕ) → known x ≡ true → IsWithin (also own (if plain then Some x else None) known) known
+known_already own known false x is z known' = known'
+known_already own known true x is z known' = elim (cases_Bool (bytes_eq x z)) [
+  | inl same ↦ subst (λ (y : List ℕ). known y ≡ true) ((bytes_eq-Decides x z).0 same) is
+  | inr other ↦ known_before (own x) (bytes_eq x z) (known z) other known'
+]
+
+none_set : (own known : Names) (plain : Bool) → IsWithin (also own (if plain then None else None) known) known
+none_set own known false z is = is
+none_set own known true z is = is
+
+-- what a statement sets may be read behind it, unless it was before
+
+names_of_place : (own shown : Names) (xs : List Sum) (c : AssignmentOperator) (p e : Expr) → reads_sums xs shown p ≡ true → IsWithin (also own (name_set (Assign c p e)) shown) shown
+names_of_place own shown xs c (Name x) e is = known_already own shown (is_plain c) x is
+names_of_place own shown xs c p e is = none_set own shown (is_plain c)
+
+names_kept : (own shown : Names) (xs : List Sum) (e : Expr) → reads_sums xs shown e ≡ true → IsWithin (also own (name_set e) shown) shown
+names_kept own shown xs (Assign c p e) is = names_of_place own shown xs c p e (left_true (reads_sums xs shown p) _ (right_true (is_changeable p) _ is))
+names_kept own shown xs e is = λ z k. k
+
+shows_name : (own shown : Names) (plain : Bool) (x : List ℕ) → is_taken x ≡ false → Shows shown → Shows (also own (if plain then Some x else None) shown)
+shows_name own shown true x free may = shows_also own shown x free may
+shows_name own shown false x free may = may
+
+shows_none : (own shown : Names) (plain : Bool) → Shows shown → Shows (also own (if plain then None else None) shown)
+shows_none own shown true may = may
+shows_none own shown false may = may
+
+shows_place : (own shown : Names) (c : AssignmentOperator) (p e : Expr) → ((x : List ℕ) → p ≡ Name x → is_taken x ≡ false) → Shows shown → Shows (also own (name_set (Assign c p e)) shown)
+shows_place own shown c (Name x) e free may = shows_name own shown (is_plain c) x (free x refl) may
+shows_place own shown c p e free may = shows_none own shown (is_plain c) may
+
+free_place : (p : Expr) → is_free p ≡ true → (x : List ℕ) → p ≡ Name x → is_taken x ≡ false
+free_place p is x named = not_true (is_taken x) (ap is_free (sym named) ∙ is)
+
+changeable_place : (p : Expr) → is_changeable p ≡ true → (x : List ℕ) → p ≡ Name x → is_taken x ≡ false
+changeable_place p is x named = not_true (is_taken x) (ap is_changeable (sym named) ∙ is)
+
+shows_set : (own shown : Names) (xs : List Sum) (e : Expr) → (sets_free xs shown e || reads_sums xs shown e) ≡ true → Shows shown → Shows (also own (name_set e) shown)
+shows_set own shown xs (Assign c p e) is may = elim (or_cases (sets_free xs shown (Assign c p e)) (reads_sums xs shown (Assign c p e)) is) [
+  | inl sets ↦ shows_place own shown c p e (free_place p (left_true (is_free p) _ (right_true (is_plain c) _ sets))) may
+  | inr reads ↦ shows_place own shown c p e (changeable_place p (left_true (is_changeable p) _ reads)) may
+]
+shows_set own shown xs e is may = may
+
+shows_simple : (own shown : Names) (xs : List Sum) (simple : SimpleStatement) → is_simple_of_end xs shown simple ≡ true → Shows shown → Shows (also own (name_set_by simple) shown)
+shows_simple own shown xs (Expression e) is may = shows_set own shown xs e is may
+shows_simple own shown xs simple is may = may
+
+shows_part : (own shown : Names) (xs : List Sum) (first : OptionalSimple) → is_part_of_end xs shown first ≡ true → Shows shown → Shows (also own (name_set_first first) shown)
+shows_part own shown xs NoSimple is may = may
+shows_part own shown xs (ASimple simple) is may = shows_simple own shown xs simple is may
+
+shows_behind : (own shown : Names) (xs : List Sum) (s : Statement) → only_prints own xs shown s ≡ true → Shows shown → Shows (behind own s shown)
+shows_behind own shown xs (Simple simple) is may = shows_simple own shown xs simple is may
+shows_behind own shown xs (For first c last s) is may = shows_part own shown xs first (left_true (is_part_of_end xs shown first) _ is) may
+shows_behind own shown xs s is may = may
+
 module _ (shown : Names) (may : Shows shown) (xs : List Sum) (proper : AreProper xs) (base base' : State) where
   abbrev Does : {A : Type 0} → Run A → Run A → Type 0
-  Does m n = Alike shown xs proper base base' Any m n
+  Does m n = Reads shown xs proper base base' Any m n
 
   abbrev DoesWith : {A : Type 0} → (A → Type 0) → Run A → Run A → Type 0
-  DoesWith P m n = Alike shown xs proper base base' P m n
+  DoesWith P m n = Reads shown xs proper base base' P m n
 
   abbrev next : {A B : Type 0} {P : A → Type 0} {Q : B → Type 0} {m n : Run A} (f g : A → Run B) → DoesWith P m n → ((a : A) → DoesWith Q (f a) (g a)) → DoesWith Q (m >>= f) (n >>= g)
-  next f g x h = then_alike shown xs proper base base' f g x h
+  next f g x h = then_alike xs proper base base' f g x h
 
   gives_back : {A : Type 0} (a : A) → Does (ret a) (ret a)
   gives_back a = ret_alike shown xs proper base base' a
@@ -68,20 +135,9 @@ module _ (shown : Names) (may : Shows shown) (xs : List Sum) (proper : AreProper
   unfolding read_element read_element_at
   element_read a key is = record {
     covers = λ arrays arrays' v w k d alike.
-        let new : Array = with_key (array_in (at shown xs proper base base' arrays v k) (number_in base.array_names a)) key in
-        rw (alike.arrays a (array_shown shown xs proper base base' a is)).elements (
-          record {
-            arrays = slice_set arrays (number_in base.array_names a) new;
-            arrays' = slice_set arrays' (number_in base'.array_names a) new;
-            here = v;
-            there = w;
-            left = k;
-            alike = set_alike shown xs proper base base' a is arrays arrays' v w k (k + d) new alike;
-            is_here = refl;
-            is_there = refl;
-          },
-          tt,
-        );
+        let old : Array = array_in (at xs proper base base' arrays v k) (number_in base.array_names a) in
+        rw (alike.arrays a (array_shown shown xs proper base base' a is)).elements
+        (array_put shown xs proper base base' a is (unwrap_or (value_at old key) value.Nothing) arrays arrays' v w k d (with_key old key) alike);
   }
 
   element_had : (a key : List ℕ) → is_array_sum xs a ≡ true → Does (has_element a key) (has_element a key)
@@ -89,7 +145,7 @@ module _ (shown : Names) (may : Shows shown) (xs : List Sum) (proper : AreProper
   element_had a key is = record {
     covers = λ arrays arrays' v w k d alike.
         rw (alike.arrays a (array_shown shown xs proper base base' a is)).elements
-        (unmoved shown xs proper base base' Any arrays arrays' v w k d [] (Ok (is_some (value_at (array_in (at shown xs proper base base' arrays v k) (number_in base.array_names a)) key))) tt (λ b _. tt) alike);
+        (unmoved shown xs proper base base' Any arrays arrays' v w k d [] (Ok (is_some (value_at (array_in (at xs proper base base' arrays v k) (number_in base.array_names a)) key))) tt (λ b _. tt) alike);
   }
 
   keys_read : (a : List ℕ) → is_array_sum xs a ≡ true → Does (keys_in a) (keys_in a)
@@ -97,7 +153,7 @@ module _ (shown : Names) (may : Shows shown) (xs : List Sum) (proper : AreProper
   keys_read a is = record {
     covers = λ arrays arrays' v w k d alike.
         rw (alike.arrays a (array_shown shown xs proper base base' a is)).elements
-        (unmoved shown xs proper base base' Any arrays arrays' v w k d [] (Ok (keys_of (array_in (at shown xs proper base base' arrays v k) (number_in base.array_names a)))) tt (λ b _. tt) alike);
+        (unmoved shown xs proper base base' Any arrays arrays' v w k d [] (Ok (keys_of (array_in (at xs proper base base' arrays v k) (number_in base.array_names a)))) tt (λ b _. tt) alike);
   }
 
   kind_read : (x : List ℕ) → is_shown x ≡ true → Does (is_array x) (is_array x)
@@ -108,7 +164,7 @@ module _ (shown : Names) (may : Shows shown) (xs : List Sum) (proper : AreProper
   unfolding array_length array_length_at
   length_read x is = record {
     covers = λ arrays arrays' v w k d alike.
-        rw (alike.arrays x is).elements (unmoved shown xs proper base base' Any arrays arrays' v w k d [] (Ok (length (array_in (at shown xs proper base base' arrays v k) (number_in base.array_names x)))) tt (λ b _. tt) alike);
+        rw (alike.arrays x is).elements (unmoved shown xs proper base base' Any arrays arrays' v w k d [] (Ok (length (array_in (at xs proper base base' arrays v k) (number_in base.array_names x)))) tt (λ b _. tt) alike);
   }
 
   key_joined : (vs : List Value) → Does (joined_key vs) (joined_key vs)
@@ -117,6 +173,66 @@ module _ (shown : Names) (may : Shows shown) (xs : List Sum) (proper : AreProper
     covers = λ arrays arrays' v w k d alike.
         rw (alike.variables (codes "SUBSEP") may.subsep) (unmoved shown xs proper base base' Any arrays arrays' v w k d [] (Ok (join (str_of (v (codes "SUBSEP"))) (map str_of vs))) tt (λ b _. tt) alike);
   }
+
+  -- what is changed
+
+  element_stored : (a key : List ℕ) (b : Value) → is_array_sum xs a ≡ true → Does (store_element a key b) (store_element a key b)
+  unfolding store_element store_element_at
+  element_stored a key b is = record {
+    covers = λ arrays arrays' v w k d alike.
+        let old : Array = array_in (at xs proper base base' arrays v k) (number_in base.array_names a) in
+        rw (alike.arrays a (array_shown shown xs proper base base' a is)).elements (array_put shown xs proper base base' a is tt arrays arrays' v w k d (with_pair old key b) alike);
+  }
+
+  element_deleted : (a key : List ℕ) → is_array_sum xs a ≡ true → Does (delete_element a key) (delete_element a key)
+  unfolding delete_element delete_element_at
+  element_deleted a key is = record {
+    covers = λ arrays arrays' v w k d alike.
+        let old : Array = array_in (at xs proper base base' arrays v k) (number_in base.array_names a) in
+        rw (alike.arrays a (array_shown shown xs proper base base' a is)).elements (array_put shown xs proper base base' a is tt arrays arrays' v w k d (without old key) alike);
+  }
+
+  array_cleared : (a : List ℕ) → is_array_sum xs a ≡ true → Does (clear_array a) (clear_array a)
+  unfolding clear_array clear_array_at
+  array_cleared a is = record { covers = λ arrays arrays' v w k d alike. array_put shown xs proper base base' a is tt arrays arrays' v w k d [] alike }
+
+  -- an element of such an array, or a variable that may be read and is none of awk's own
+  abbrev IsChanged : Place → Type 0
+  IsChanged (AName x) = (shown x ≡ true) × (is_taken x ≡ false)
+  IsChanged (AnElement a key) = is_array_sum xs a ≡ true
+  IsChanged (AField n) = ⊥
+
+  abbrev kept_shown : (x : List ℕ) → IsWithin shown (also no_own (Some x) shown)
+  kept_shown x = within_also no_own shown (Some x)
+
+  place_read : (q : Place) → IsChanged q → Does (read_place q) (read_place q)
+  unfolding read_place
+  place_read (AName x) is = name_read x is.0
+  place_read (AnElement a key) is = element_read a key is
+  place_read (AField n) is = absurd is
+
+  stored : (q : Place) (b : Value) → IsChanged q → Does (store q b) (store q b)
+  unfolding store
+  stored (AName x) b is = alike_within xs proper base base' (kept_shown x) (put_alike no_own shown x is.1 xs proper base base' b)
+  stored (AnElement a key) b is = element_stored a key b is
+  stored (AField n) b is = absurd is
+
+  assigned : (q : Place) (b : Value) → IsChanged q → Does (assign q b) (assign q b)
+  unfolding assign
+  assigned q b is = next _ _ (stored q b is) (λ _. place_read q is)
+
+  assigned_by : (c : Option Operator) (q : Place) (b : Value) → IsChanged q → Does (assign_by c q b) (assign_by c q b)
+  unfolding assign_by
+  assigned_by None q b is = assigned q b is
+  assigned_by (Some c) q b is = next _ _ (place_read q is) (λ old. next _ _ (lift_alike shown xs proper base base' (applied c old b) (applied_faults c old b)) (λ z. assigned q z is))
+
+  number_had : (v : Value) → Does (number_of v) (number_of v)
+  number_had v = lift_alike shown xs proper base base' (of_values (num_of v)) (of_values_faults (num_of v))
+
+  incremented : (c : IncrementOperator) (q : Place) → IsChanged q → Does (post_increment c q) (post_increment c q)
+  unfolding post_increment
+  incremented c q is = next _ _ (place_read q is) (λ old. next _ _ (number_had old) (λ n.
+      next _ _ (lift_alike shown xs proper base base' (applied (by_one c) (value.Number n) one) (applied_faults (by_one c) (value.Number n) one)) (λ b. next _ _ (stored q b is) (λ _. gives_back _))))
 
   -- what prints
 
@@ -194,21 +310,46 @@ module _ (shown : Names) (may : Shows shown) (xs : List Sum) (proper : AreProper
           let both = right_true (reads_sums xs shown c) _ is in
           let here = expression_alike a (left_true (reads_sums xs shown a) _ both) in
           let other = expression_alike b (right_true (reads_sums xs shown a) _ both) in
-          next _ _ (tested_alike shown xs proper base base' (expression_alike c (left_true (reads_sums xs shown c) _ is))) (λ x. choose_alike shown xs proper base base' x here other)
+          next _ _ (tested_alike shown xs proper base base' (expression_alike c (left_true (reads_sums xs shown c) _ is))) (λ x. choose_alike xs proper base base' x here other)
       expression_alike (BuiltIn c es) is =
           let may = left_true (is_of_values c es) _ is in
-          then_with shown xs proper base base' _ _ (arguments_alike (is_length c) es (roles_of c) [] (may_take c es may) (right_true (is_of_values c es) _ is) (begun_first c es may)) (λ arguments are. built_in_alike c es arguments may are)
+          then_with xs proper base base' _ _ (arguments_alike (is_length c) es (roles_of c) [] (may_take c es may) (right_true (is_of_values c es) _ is) (begun_first c es may)) (λ arguments are. built_in_alike c es arguments may are)
       expression_alike (Membership e a) is = next _ _ (expression_alike e (right_true (is_array_sum xs a) _ is)) (λ v. next _ _ (element_had a (str_of v) (left_true (is_array_sum xs a) _ is)) (λ y. gives_back _))
       expression_alike (ListMembership es a) is = next _ _ (keys_alike [] es (right_true (is_array_sum xs a) _ is)) (λ key. next _ _ (element_had a key (left_true (is_array_sum xs a) _ is)) (λ y. gives_back _))
+      expression_alike (PreIncrement c p) is = then_with xs proper base base' _ _ (place_alike p (left_true (is_changeable p) _ is) (right_true (is_changeable p) _ is)) (λ q held. assigned_by (Some (by_one c)) q one held)
+      expression_alike (PostIncrement c p) is = then_with xs proper base base' _ _ (place_alike p (left_true (is_changeable p) _ is) (right_true (is_changeable p) _ is)) (λ q held. incremented c q held)
+      expression_alike (Assign c p e) is =
+          let both = right_true (is_changeable p) _ is in
+          let here = expression_alike e (right_true (reads_sums xs shown p) _ both) in
+          then_with xs proper base base' _ _ (place_alike p (left_true (is_changeable p) _ is) (left_true (reads_sums xs shown p) _ both)) (λ q held. next _ _ here (λ b. assigned_by (operator_of c) q b held))
       expression_alike (Ere text) is = absurd (cc)
       expression_alike (Field e) is = absurd (cc)
       expression_alike (Call c es) is = absurd (cc)
       expression_alike Length is = absurd (cc)
-      expression_alike (PreIncrement c p) is = absurd (cc)
-      expression_alike (PostIncrement c p) is = absurd (cc)
       expression_alike (Getline p file) is = absurd (cc)
       expression_alike (PipedGetline c p) is = absurd (cc)
-      expression_alike (Assign c p e) is = absurd (cc)
+
+      place_alike : (e : Expr) → is_changeable e ≡ true → reads_sums xs shown e ≡ true → DoesWith IsChanged (place_of f e) (place_of g e)
+      place_alike (Name x) may is = ret_with shown xs proper base base' (AName x) (is, not_true (is_taken x) may)
+      place_alike (Element a es) may is = next _ _ (keys_alike [] es (right_true (is_array_sum xs a) _ is)) (λ key. ret_with shown xs proper base base' (AnElement a key) (left_true (is_array_sum xs a) _ is))
+      place_alike (Number n) may is = absurd (cc)
+      place_alike (String bytes) may is = absurd (cc)
+      place_alike (Ere text) may is = absurd (cc)
+      place_alike (Field a) may is = absurd (cc)
+      place_alike (Group a) may is = absurd (cc)
+      place_alike (Call c es) may is = absurd (cc)
+      place_alike (BuiltIn c es) may is = absurd (cc)
+      place_alike Length may is = absurd (cc)
+      place_alike (PreIncrement c p) may is = absurd (cc)
+      place_alike (PostIncrement c p) may is = absurd (cc)
+      place_alike (Getline p file) may is = absurd (cc)
+      place_alike (PipedGetline c p) may is = absurd (cc)
+      place_alike (Unary c a) may is = absurd (cc)
+      place_alike (Binary c a b) may is = absurd (cc)
+      place_alike (Membership a x) may is = absurd (cc)
+      place_alike (ListMembership es x) may is = absurd (cc)
+      place_alike (Conditional c a b) may is = absurd (cc)
+      place_alike (Assign c p a) may is = absurd (cc)
 
       keys_alike : (front : List Value) (es : Exprs) → all_read_sums xs shown es ≡ true → Does (key_of f front es) (key_of g front es)
       keys_alike front Nil is = key_joined front
@@ -218,11 +359,11 @@ module _ (shown : Names) (may : Shows shown) (xs : List Sum) (proper : AreProper
       arguments_alike first Nil roles front takes is begun = ret_with shown xs proper base base' front (all_taken first front begun)
       arguments_alike first (Cons e es) [] front takes is begun =
           let rest = right_true (reads_sums xs shown e) _ is in
-          then_with shown xs proper base base' _ _ (value_taken (expression_alike e (left_true (reads_sums xs shown e) _ is))) (λ a is_shown. arguments_alike first es [] (front ++ a ∷ []) tt rest (begun_on first front a e es is_shown begun))
+          then_with xs proper base base' _ _ (value_taken (expression_alike e (left_true (reads_sums xs shown e) _ is))) (λ a is_shown. arguments_alike first es [] (front ++ a ∷ []) tt rest (begun_on first front a e es is_shown begun))
       arguments_alike first (Cons e es) (AsMeasured ∷ roles) front takes is begun =
           let rest = right_true (reads_sums xs shown e) _ is in
           let own = left_true (reads_sums xs shown e) _ is in
-          then_with shown xs proper base base' _ _ (measured (bare_name e) (bare_shown xs shown may.within e own) (expression_alike e (left_true (reads_sums xs shown e) _ is))) (λ a is_shown. arguments_alike first es roles (front ++ a ∷ []) takes rest (begun_on first front a e es is_shown begun))
+          then_with xs proper base base' _ _ (measured (bare_name e) (bare_shown xs shown may.within e own) (expression_alike e (left_true (reads_sums xs shown e) _ is))) (λ a is_shown. arguments_alike first es roles (front ++ a ∷ []) takes rest (begun_on first front a e es is_shown begun))
       arguments_alike first (Cons e es) (AsValue ∷ roles) front takes is begun = absurd takes
       arguments_alike first (Cons e es) (AsPattern ∷ roles) front takes is begun = absurd takes
       arguments_alike first (Cons e es) (AsArray ∷ roles) front takes is begun = absurd takes
@@ -257,32 +398,100 @@ module _ (shown : Names) (may : Shows shown) (xs : List Sum) (proper : AreProper
 
     print_alike : (by : PrintForm) (list : PrintList) (output : Output) → is_printed xs shown list ≡ true → is_standard output ≡ true → Does (print f by list output) (print g by list output)
     unfolding print
-    print_alike by list output is standard = next _ _ (spend_alike shown xs proper base base') (λ _. then_with shown xs proper base base' _ _ (list_alike list is) (λ vs some. target_alike output (λ n. print_by f by n vs) (λ n. print_by g by n vs) standard (print_by_alike by vs some)))
-
-    simple_alike : (simple : SimpleStatement) → is_simple_print xs shown simple ≡ true → Does (exec_simple f simple) (exec_simple g simple)
-    unfolding exec_simple
-    simple_alike (Print by list output) is = next _ _ (print_alike by list output (left_true (is_printed xs shown list) _ is) (right_true (is_printed xs shown list) _ is)) (λ _. gives_back flow.Normal)
-    simple_alike (Expression e) is = absurd (cc)
-    simple_alike (Delete x es) is = absurd (cc)
-    simple_alike (DeleteAll x) is = absurd (cc)
-    simple_alike Next is = absurd (cc)
-    simple_alike NextFile is = absurd (cc)
-    simple_alike Break is = absurd (cc)
-    simple_alike Continue is = absurd (cc)
-    simple_alike (Exit e) is = absurd (cc)
-    simple_alike (Return e) is = absurd (cc)
+    print_alike by list output is standard = next _ _ (spend_alike shown xs proper base base') (λ _. then_with xs proper base base' _ _ (list_alike list is) (λ vs some. target_alike output (λ n. print_by f by n vs) (λ n. print_by g by n vs) standard (print_by_alike by vs some)))
 
     test_alike : (e : Expr) → reads_sums xs shown e ≡ true → Does (begin_test f e) (begin_test g e)
     unfolding begin_test
     test_alike e is = next _ _ (spend_alike shown xs proper base base') (λ _. tested_alike shown xs proper base base' (expression_alike e is))
 
-    -- walks
+    goes_on_alike : (c : OptionalExpr) → may_read_sums xs shown c ≡ true → Does (goes_on f c) (goes_on g c)
+    unfolding goes_on
+    goes_on_alike NoExpr is = gives_back true
+    goes_on_alike (AnExpr e) is = tested_alike shown xs proper base base' (expression_alike e is)
+
+    -- exits
+
+    module _ (same : base'.status ≡ base.status) where
+      exits : DoesWith {A = Flow} Any (lift (Err halt.Exit)) (lift (Err halt.Exit))
+      unfolding lift
+      exits = record { covers = λ arrays arrays' v w k d alike. (refl, (refl, same)) }
+
+      status_covers : (r : Result ℤ Halt) → IsValueOrFault r → (arrays arrays' : List Array) (v w : Values) (k l d : ℕ) →
+          Covers xs proper base base' {A = Flow} Any shown d (((lift r >>= λ n. with_status n) >>= λ _. lift (Err halt.Exit)) (at xs proper base base' arrays v k)).result (((lift r >>= λ n. with_status n) >>= λ _. lift (Err halt.Exit)) (at xs proper base base' arrays v k)) (((lift r >>= λ n. with_status n) >>= λ _. lift (Err halt.Exit)) (at' xs proper base base' arrays' w l))
+      unfolding lift ◌>>=◌ go_on
+      status_covers (Ok n) is arrays arrays' v w k l d = (refl, (refl, refl))
+      status_covers (Err (halt.Fault n)) is arrays arrays' v w k l d = (refl, refl)
+      status_covers (Err halt.OutOfSteps) is arrays arrays' v w k l d = absurd is
+      status_covers (Err halt.Next) is arrays arrays' v w k l d = absurd is
+      status_covers (Err halt.Exit) is arrays arrays' v w k l d = absurd is
+
+      exits_with : (b : Value) → DoesWith {A = Flow} Any (set_status b >>= λ _. lift (Err halt.Exit)) (set_status b >>= λ _. lift (Err halt.Exit))
+      unfolding set_status
+      exits_with b = record { covers = λ arrays arrays' v w k d alike. status_covers (of_values (num_of b)) (of_values_faults (num_of b)) arrays arrays' v w k (k + d) d }
+
+      exit_alike : (e : OptionalExpr) → may_read_sums xs shown e ≡ true → Does (exit_with f e) (exit_with g e)
+      unfolding exit_with
+      exit_alike NoExpr is = exits
+      exit_alike (AnExpr e) is = next _ _ (expression_alike e is) (λ b. exits_with b)
+
+    -- statements that set a variable
+
+    set_alike : (own : Names) (x : List ℕ) (e : Expr) → is_taken x ≡ false → reads_sums xs shown e ≡ true → Alike xs proper base base' shown (also own (Some x) shown) Any (eval f (Assign assignment.Plain (Name x) e)) (eval g (Assign assignment.Plain (Name x) e))
+    unfolding eval assign_by lift ◌>>=◌ go_on
+    set_alike own x e free is = record {
+      covers = λ arrays arrays' v w k d alike.
+          (then_alike xs proper base base' (λ b. assign (AName x) b) (λ b. assign (AName x) b) (expression_alike e is) (λ b. assigned_alike own shown x free xs proper base base' b)).covers arrays arrays' v w k d alike;
+    }
+
+    plain_set_alike : (own : Names) (c : AssignmentOperator) (x : List ℕ) (e : Expr) → is_plain c ≡ true → is_taken x ≡ false → reads_sums xs shown e ≡ true → Alike xs proper base base' shown (also own (name_set (Assign c (Name x) e)) shown) Any (eval f (Assign c (Name x) e)) (eval g (Assign c (Name x) e))
+    plain_set_alike own assignment.Plain x e plain free is = set_alike own x e free is
+    plain_set_alike own assignment.Add x e plain free is = absurd (cc)
+    plain_set_alike own assignment.Subtract x e plain free is = absurd (cc)
+    plain_set_alike own assignment.Multiply x e plain free is = absurd (cc)
+    plain_set_alike own assignment.Divide x e plain free is = absurd (cc)
+    plain_set_alike own assignment.Remainder x e plain free is = absurd (cc)
+    plain_set_alike own assignment.Power x e plain free is = absurd (cc)
+
+    place_set_alike : (own : Names) (c : AssignmentOperator) (place e : Expr) → is_plain c ≡ true → is_free place ≡ true → reads_sums xs shown e ≡ true → Alike xs proper base base' shown (also own (name_set (Assign c place e)) shown) Any (eval f (Assign c place e)) (eval g (Assign c place e))
+    place_set_alike own c (Name x) e plain free is = plain_set_alike own c x e plain (not_true (is_taken x) free) is
+    place_set_alike own c place e plain free is = absurd (cc)
+
+    free_set_alike : (own : Names) (e : Expr) → sets_free xs shown e ≡ true → Alike xs proper base base' shown (also own (name_set e) shown) Any (eval f e) (eval g e)
+    free_set_alike own (Assign c place e) is =
+        let both = right_true (is_plain c) _ is in
+        place_set_alike own c place e (left_true (is_plain c) _ is) (left_true (is_free place) _ both) (right_true (is_free place) _ both)
+    free_set_alike own e is = absurd (cc)
+
+    statement_alike : (own : Names) (e : Expr) → (sets_free xs shown e || reads_sums xs shown e) ≡ true → Alike xs proper base base' shown (also own (name_set e) shown) Any (eval f e) (eval g e)
+    statement_alike own e is = elim (or_cases (sets_free xs shown e) (reads_sums xs shown e) is) [
+      | inl sets ↦ free_set_alike own e sets
+      | inr reads ↦ alike_within xs proper base base' (names_kept own shown xs e reads) (expression_alike e reads)
+    ]
+
+    simple_alike : (same : base'.status ≡ base.status) (own : Names) (simple : SimpleStatement) → is_simple_of_end xs shown simple ≡ true → Alike xs proper base base' shown (also own (name_set_by simple) shown) Any (exec_simple f simple) (exec_simple g simple)
+    unfolding exec_simple
+    simple_alike same own (Expression e) is = then_alike xs proper base base' _ _ (spend_alike shown xs proper base base') (λ _. then_alike xs proper base base' _ _ (statement_alike own e is) (λ v. ret_alike (also own (name_set e) shown) xs proper base base' flow.Normal))
+    simple_alike same own (Print by list output) is = next _ _ (print_alike by list output (left_true (is_printed xs shown list) _ is) (right_true (is_printed xs shown list) _ is)) (λ _. gives_back flow.Normal)
+    simple_alike same own (Delete a es) is =
+        let summed = left_true (is_array_sum xs a) _ is in
+        next _ _ (spend_alike shown xs proper base base') (λ _. next _ _ (keys_alike [] es (right_true (is_array_sum xs a) _ is)) (λ key. next _ _ (element_deleted a key summed) (λ _. gives_back flow.Normal)))
+    simple_alike same own (DeleteAll a) is = next _ _ (spend_alike shown xs proper base base') (λ _. next _ _ (array_cleared a is) (λ _. gives_back flow.Normal))
+    simple_alike same own (Exit e) is = next _ _ (spend_alike shown xs proper base base') (λ _. exit_alike same e is)
+    simple_alike same own Break is = next _ _ (spend_alike shown xs proper base base') (λ _. gives_back flow.Break)
+    simple_alike same own Continue is = next _ _ (spend_alike shown xs proper base base') (λ _. gives_back flow.Continue)
+    simple_alike same own Next is = absurd (cc)
+    simple_alike same own NextFile is = absurd (cc)
+    simple_alike same own (Return e) is = absurd (cc)
+
+    part_alike : (same : base'.status ≡ base.status) (own : Names) (first : OptionalSimple) → is_part_of_end xs shown first ≡ true → Alike xs proper base base' shown (also own (name_set_first first) shown) Any (exec_part f first) (exec_part g first)
+    unfolding exec_part
+    part_alike same own NoSimple is = gives_back tt
+    part_alike same own (ASimple simple) is = then_alike xs proper base base' _ _ (simple_alike same own simple is) (λ c. ret_alike (also own (name_set_by simple) shown) xs proper base base' tt)
+
+    -- loops
 
     abbrev DoesAt : (A : Type 0) → Run A → Run A → Type 0
     DoesAt A m n = Does m n
-
-    pub pass : (c : Flow) {m n : Run Flow} → Does m n → Does (pass_on c m) (pass_on c n)
-    pass c h = pass_alike DoesAt (λ A a. gives_back a) c h
 
     unless : (ended : Option Flow) {m n : Run Flow} → Does m n → Does (unless_ended ended m) (unless_ended ended n)
     unless ended h = unless_alike DoesAt (λ A a. gives_back a) ended h
@@ -290,58 +499,102 @@ module _ (shown : Names) (may : Shows shown) (xs : List Sum) (proper : AreProper
     turned : {m n : Run Flow} → Does m n → Does (turn m) (turn n)
     turned h = turn_alike DoesAt (λ A a. gives_back a) (λ A B m n f g x h. next f g x h) (spend_alike shown xs proper base base') h
 
-    pub walk_alike : (own : Names) (x : List ℕ) (keys : List (List ℕ)) {m n : Run Flow} → is_taken x ≡ false → Alike (also own (Some x) shown) xs proper base base' Any m n → Does (walk x keys m) (walk x keys n)
+    starved : (n : Run Flow) → Does (lift (Err halt.OutOfSteps)) n
+    unfolding lift
+    starved n = record { covers = λ arrays arrays' v w k d alike. tt }
+
+    repeat_alike : {c c' : Run Bool} {s s' : Run Flow} {last last' : Run (Unit {0})} → Does c c' → Does s s' → Does last last' → Does (repeat c s last) (repeat c' s' last')
+    unfolding repeat
+    repeat_alike {c = c} {c' = c'} {s = s} {s' = s'} {last = last} {last' = last'} condition body end = record {
+      covers = λ arrays arrays' v w k d alike.
+          let more : suc k + d ≡ suc (k + d) = omega arith in
+          (subst (λ (n : ℕ). Does (repeat_within (suc k) c s last) (repeat_within n c' s' last')) more (repeat_within_alike DoesAt (λ A a. gives_back a) (λ A B m n f g x h. next f g x h) (spend_alike shown xs proper base base') starved (suc k) d condition body end)).covers arrays arrays' v w k d alike;
+    }
+
+    walk_alike : (own : Names) (x : List ℕ) (keys : List (List ℕ)) {m n : Run Flow} → is_taken x ≡ false → Alike xs proper base base' (also own (Some x) shown) (also own (Some x) shown) Any m n → Does (walk x keys m) (walk x keys n)
     unfolding walk
     walk_alike own x [] free h = gives_back flow.Normal
-    walk_alike own x (key ∷ keys) free h = next _ _ (turned (named_then own shown x xs proper base base' key free h)) (λ ended. unless ended (walk_alike own x keys free h))
+    walk_alike own x (key ∷ keys) free h =
+        let body = alike_within xs proper base base' (within_also own shown (Some x)) (then_alike xs proper base base' _ _ (put_alike own shown x free xs proper base base' (value.Text key)) (λ _. h)) in
+        next _ _ (turned body) (λ ended. unless ended (walk_alike own x keys free h))
 
-module _ (own : Names) (xs : List Sum) (proper : AreProper xs) (base base' : State) (f g : Functions) where
-  abbrev Shown : {A : Type 0} → Names → Run A → Run A → Type 0
-  Shown shown m n = Alike shown xs proper base base' Any m n
+    -- what follows a statement, where more may be read behind that
+    passed_on : (c : Flow) {more : Names} {m n : Run Flow} → IsWithin shown more → Alike xs proper base base' more more Any m n → Alike xs proper base base' more shown Any (pass_on c m) (pass_on c n)
+    passed_on c {more = more} grows h =
+        pass_alike (λ A m n. Alike xs proper base base' more shown (Any {A = A}) m n) (λ A a. alike_within xs proper base base' grows (ret_alike more xs proper base base' a)) c (alike_within xs proper base base' grows h)
+
+module _ (own : Names) (xs : List Sum) (proper : AreProper xs) (base base' : State) (same : base'.status ≡ base.status) (f g : Functions) where
+  abbrev Shown : {A : Type 0} → Names → Names → Run A → Run A → Type 0
+  Shown before known m n = Alike xs proper base base' before known Any m n
+
+  abbrev then_shown : {A B : Type 0} {before known after : Names} {m n : Run A} (h k : A → Run B) → Shown before known m n → ((a : A) → Shown known after (h a) (k a)) → Shown before after (m >>= h) (n >>= k)
+  then_shown h k x y = then_alike xs proper base base' h k x y
+
+  -- what a statement sets needn't be read behind it
+  within : (shown : Names) (s : Statement) {m n : Run Flow} → Shown shown (behind own s shown) m n → Shown shown shown m n
+  within shown s h = alike_within xs proper base base' (within_also own shown (name_behind s)) h
 
   mutual
     unfolding exec
 
-    exec_alike : (shown : Names) (may : Shows shown) (s : Statement) → only_prints own xs shown s ≡ true → Shown shown (exec f s) (exec g s)
+    exec_alike : (shown : Names) (may : Shows shown) (s : Statement) → only_prints own xs shown s ≡ true → Shown shown (behind own s shown) (exec f s) (exec g s)
     exec_alike shown may Empty is = ret_alike shown xs proper base base' flow.Normal
-    exec_alike shown may (Simple simple) is = simple_alike shown may xs proper base base' f g simple is
+    exec_alike shown may (Simple simple) is = simple_alike shown may xs proper base base' f g same own simple is
     exec_alike shown may (Block all) is = exec_all_alike shown may all is
     exec_alike shown may (If c s) is =
-        let body = exec_alike shown may s (right_true (reads_sums xs shown c) _ is) in
-        then_alike shown xs proper base base' _ _ (test_alike shown may xs proper base base' f g c (left_true (reads_sums xs shown c) _ is)) (λ x. choose_alike shown xs proper base base' x body (ret_alike shown xs proper base base' flow.Normal))
+        let body = within shown s (exec_alike shown may s (right_true (reads_sums xs shown c) _ is)) in
+        then_shown _ _ (test_alike shown may xs proper base base' f g c (left_true (reads_sums xs shown c) _ is)) (λ x. choose_alike xs proper base base' x body (ret_alike shown xs proper base base' flow.Normal))
     exec_alike shown may (IfElse c s other) is =
         let both = right_true (reads_sums xs shown c) _ is in
-        let body = exec_alike shown may s (left_true (only_prints own xs shown s) _ both) in
-        let rest = exec_alike shown may other (right_true (only_prints own xs shown s) _ both) in
-        then_alike shown xs proper base base' _ _ (test_alike shown may xs proper base base' f g c (left_true (reads_sums xs shown c) _ is)) (λ x. choose_alike shown xs proper base base' x body rest)
+        let body = within shown s (exec_alike shown may s (left_true (only_prints own xs shown s) _ both)) in
+        let rest = within shown other (exec_alike shown may other (right_true (only_prints own xs shown s) _ both)) in
+        then_shown _ _ (test_alike shown may xs proper base base' f g c (left_true (reads_sums xs shown c) _ is)) (λ x. choose_alike xs proper base base' x body rest)
+    exec_alike shown may (While c s) is =
+        let tested = tested_alike shown xs proper base base' (expression_alike shown may xs proper base base' f g c (left_true (reads_sums xs shown c) _ is)) in
+        let body = within shown s (exec_alike shown may s (right_true (reads_sums xs shown c) _ is)) in
+        then_shown _ _ (spend_alike shown xs proper base base') (λ _. repeat_alike shown may xs proper base base' f g tested body (ret_alike shown xs proper base base' tt))
+    exec_alike shown may (Do s c) is =
+        let tested = tested_alike shown xs proper base base' (expression_alike shown may xs proper base base' f g c (left_true (reads_sums xs shown c) _ is)) in
+        let body = within shown s (exec_alike shown may s (right_true (reads_sums xs shown c) _ is)) in
+        then_shown _ _ (spend_alike shown xs proper base base')
+        (λ _. then_shown _ _ (turned shown may xs proper base base' f g body) (λ ended. unless shown may xs proper base base' f g ended (repeat_alike shown may xs proper base base' f g tested body (ret_alike shown xs proper base base' tt))))
+    exec_alike shown may (For first c last s) is =
+        let more = also own (name_set_first first) shown in
+        let loop = right_true (is_part_of_end xs shown first) _ is in
+        let parts = right_true (may_read_sums xs more c) _ loop in
+        let grown = shows_part own shown xs first (left_true (is_part_of_end xs shown first) _ is) may in
+        let tested = goes_on_alike more grown xs proper base base' f g c (left_true (may_read_sums xs more c) _ loop) in
+        let end = alike_within xs proper base base' (within_also own more (name_set_first last)) (part_alike more grown xs proper base base' f g same own last (left_true (is_part_of_end xs more last) _ parts)) in
+        let body = within more s (exec_alike more grown s (right_true (is_part_of_end xs more last) _ parts)) in
+        then_shown _ _ (spend_alike shown xs proper base base')
+        (λ _. then_shown _ _ (part_alike shown may xs proper base base' f g same own first (left_true (is_part_of_end xs shown first) _ is)) (λ _. repeat_alike more grown xs proper base base' f g tested body end))
     exec_alike shown may (ForIn x a s) is =
         let both = right_true (not (is_taken x || is_sum xs x)) _ is in
         let free : is_taken x ≡ false = no_left (is_taken x) (is_sum xs x) (left_true (not (is_taken x || is_sum xs x)) _ is) in
-        let body = exec_alike (also own (Some x) shown) (shows_also own shown x free may) s (right_true (is_array_sum xs a) _ both) in
-        then_alike shown xs proper base base' _ _ (spend_alike shown xs proper base base')
-        (λ _. then_alike shown xs proper base base' _ _ (keys_read shown may xs proper base base' a (left_true (is_array_sum xs a) _ both)) (λ keys. walk_alike shown may xs proper base base' f g own x keys free body))
-    exec_alike shown may (While c s) is = absurd (cc)
-    exec_alike shown may (Do s c) is = absurd (cc)
-    exec_alike shown may (For first c last s) is = absurd (cc)
+        let more = also own (Some x) shown in
+        let body = within more s (exec_alike more (shows_also own shown x free may) s (right_true (is_array_sum xs a) _ both)) in
+        then_shown _ _ (spend_alike shown xs proper base base')
+        (λ _. then_shown _ _ (keys_read shown may xs proper base base' a (left_true (is_array_sum xs a) _ both)) (λ keys. walk_alike shown may xs proper base base' f g own x keys free body))
 
-    exec_all_alike : (shown : Names) (may : Shows shown) (all : Statements) → all_only_print own xs shown all ≡ true → Shown shown (exec_all f all) (exec_all g all)
+    exec_all_alike : (shown : Names) (may : Shows shown) (all : Statements) → all_only_print own xs shown all ≡ true → Shown shown shown (exec_all f all) (exec_all g all)
     exec_all_alike shown may NoMore is = ret_alike shown xs proper base base' flow.Normal
     exec_all_alike shown may (Then s all) is =
-        let rest = exec_all_alike shown may all (right_true (only_prints own xs shown s) _ is) in
-        then_alike shown xs proper base base' _ _ (exec_alike shown may s (left_true (only_prints own xs shown s) _ is)) (λ c. pass shown may xs proper base base' f g c rest)
+        let here = left_true (only_prints own xs shown s) _ is in
+        let rest = exec_all_alike (behind own s shown) (shows_behind own shown xs s here may) all (right_true (only_prints own xs shown s) _ is) in
+        then_shown _ _ (exec_alike shown may s here) (λ c. passed_on shown may xs proper base base' f g c (within_also own shown (name_behind s)) rest)
 
   module _ (owned : AreOwn own xs) where
     abbrev first : Names
     first = shows own
 
-    abbrev gives_unit : Shown first (ret (tt {0})) (ret (tt {0}))
+    abbrev gives_unit : Shown first first (ret (tt {0})) (ret (tt {0}))
     gives_unit = ret_alike first xs proper base base' tt
 
-    action_alike : (all : Statements) → all_only_print own xs first all ≡ true → Shown first (run_action f all) (run_action g all)
+    action_alike : (all : Statements) → all_only_print own xs first all ≡ true → Shown first first (run_action f all) (run_action g all)
     unfolding run_action
-    action_alike all is = then_alike first xs proper base base' _ _ (exec_all_alike first (shows_first own xs owned) all is) (λ c. gives_unit)
+    action_alike all is = then_shown _ _ (exec_all_alike first (shows_first own xs owned) all is) (λ c. gives_unit)
 
-    item_alike : (x : Item) → is_mergeable_item own xs x ≡ true → Shown first (end_item f x) (end_item g x)
+    item_alike : (x : Item) → is_mergeable_item own xs x ≡ true → Shown first first (end_item f x) (end_item g x)
     unfolding end_item
     item_alike (End block) is = action_alike block is
     item_alike (Begin block) is = gives_unit
@@ -350,14 +603,14 @@ module _ (own : Names) (xs : List Sum) (proper : AreProper xs) (base base' : Sta
     item_alike (PatternOnly q) is = absurd (cc)
     item_alike (Function name parameters block) is = absurd (cc)
 
-    pub items_alike : (items : List Item) → are_mergeable own xs items ≡ true → Shown first (end_items f items) (end_items g items)
+    pub items_alike : (items : List Item) → are_mergeable own xs items ≡ true → Shown first first (end_items f items) (end_items g items)
     unfolding end_items
     items_alike [] is = gives_unit
-    items_alike (x ∷ items) is = then_alike first xs proper base base' _ _ (item_alike x (left_true (is_mergeable_item own xs x) _ is)) (λ _. items_alike items (right_true (is_mergeable_item own xs x) _ is))
+    items_alike (x ∷ items) is = then_shown _ _ (item_alike x (left_true (is_mergeable_item own xs x) _ is)) (λ _. items_alike items (right_true (is_mergeable_item own xs x) _ is))
 
 -- where steps are enough
 module _ (shown : Names) (xs : List Sum) (proper : AreProper xs) (s t : State) (d : ℕ) (same : t.status ≡ s.status) where
-  ended : (r : Result (Unit {0}) Halt) (x y : Out (Unit {0})) → x.result ≡ r → Covers shown xs proper s t Any d r x y → r ≢ Err halt.OutOfSteps → EndAlike x y
+  ended : (r : Result (Unit {0}) Halt) (x y : Out (Unit {0})) → x.result ≡ r → Covers xs proper s t Any shown d r x y → r ≢ Err halt.OutOfSteps → EndAlike x y
   ended (Ok u) x y is c enough = record {
     outcome = ap (λ (z : Out (Unit {0})). outcome_of z.result z.state.status) c.0.is_there ∙ ap (λ (n : ℕ). outcome_of x.result n) (same ∙ sym (ap (λ (z : State). z.status) c.0.is_here));
     effects = ap (λ (z : Out (Unit {0})). z.effects) c.0.is_there;
@@ -368,7 +621,13 @@ module _ (shown : Names) (xs : List Sum) (proper : AreProper xs) (s t : State) (
   }
   ended (Err halt.OutOfSteps) x y is c enough = absurd (enough refl)
   ended (Err halt.Next) x y is c enough = absurd c
-  ended (Err halt.Exit) x y is c enough = absurd c
+  ended (Err halt.Exit) x y is c enough = record {
+    outcome =
+        ap (λ (r : Result (Unit {0}) Halt). outcome_of r y.state.status) c.0
+        ∙ ap (λ (n : ℕ). outcome_of (Err halt.Exit) n) c.1.1
+        ∙ sym (ap (λ (r : Result (Unit {0}) Halt). outcome_of r x.state.status) is);
+    effects = c.1.0;
+  }
 
 turned_round : (shown : Names) (xs : List Sum) (s t : State) → ShowAlike shown xs s t → ShowAlike shown xs t s
 turned_round shown xs s t alike = record {
@@ -381,25 +640,25 @@ turned_end : (x y : Out (Unit {0})) → EndAlike x y → EndAlike y x
 turned_end x y alike = record { outcome = sym alike.outcome; effects = sym alike.effects }
 
 module _ (f g : Functions) (items : List Item) (own : Names) (xs : List Sum) (owned : AreOwn own xs) (proper : AreProper xs) (mergeable : are_mergeable own xs items ≡ true) (s t : State) (none : s.frames ≡ []) (none' : t.frames ≡ []) (same : t.status ≡ s.status) (alike : ShowAlike (shows own) xs s t) where
-  as_here : at (shows own) xs proper s t s.arrays s.variables s.steps ≡ s
+  as_here : at xs proper s t s.arrays s.variables s.steps ≡ s
   as_here = ap (λ (frames : _). record s { frames = frames }) (sym none)
 
-  as_there : at' (shows own) xs proper s t t.arrays t.variables t.steps ≡ t
+  as_there : at' xs proper s t t.arrays t.variables t.steps ≡ t
   as_there = ap (λ (frames : _). record t { frames = frames }) (sym none')
 
   fewer_here : s.steps ≤ t.steps → (end_items f items s).result ≢ Err halt.OutOfSteps → EndAlike (end_items f items s) (end_items g items t)
   fewer_here le enough =
       let d : ℕ = t.steps - s.steps in
       let steps : t.steps ≡ s.steps + d = omega arith in
-      let there : at' (shows own) xs proper s t t.arrays t.variables (s.steps + d) ≡ t = ap (λ (n : ℕ). at' (shows own) xs proper s t t.arrays t.variables n) (sym steps) ∙ as_there in
-      let covers = (items_alike own xs proper s t f g owned items mergeable).covers s.arrays t.arrays s.variables t.variables s.steps d (record {
+      let there : at' xs proper s t t.arrays t.variables (s.steps + d) ≡ t = ap (λ (n : ℕ). at' xs proper s t t.arrays t.variables n) (sym steps) ∙ as_there in
+      let covers = (items_alike own xs proper s t same f g owned items mergeable).covers s.arrays t.arrays s.variables t.variables s.steps d (record {
         variables = alike.variables;
         arrays = λ x e. record { named = (alike.arrays x e).named; elements = (alike.arrays x e).elements };
         summed = alike.summed;
       }) in
-      let out : Covers (shows own) xs proper s t Any d (end_items f items s).result (end_items f items s) (end_items g items t)
-      = subst (λ (z : State). Covers (shows own) xs proper s t Any d (end_items f items s).result (end_items f items s) (end_items g items z)) there
-      (subst (λ (z : State). Covers (shows own) xs proper s t Any d (end_items f items z).result (end_items f items z) (end_items g items (at' (shows own) xs proper s t t.arrays t.variables (s.steps + d)))) as_here covers) in
+      let out : Covers xs proper s t Any (shows own) d (end_items f items s).result (end_items f items s) (end_items g items t)
+      = subst (λ (z : State). Covers xs proper s t Any (shows own) d (end_items f items s).result (end_items f items s) (end_items g items z)) there
+      (subst (λ (z : State). Covers xs proper s t Any (shows own) d (end_items f items z).result (end_items f items z) (end_items g items (at' xs proper s t t.arrays t.variables (s.steps + d)))) as_here covers) in
       ended (shows own) xs proper s t d same (end_items f items s).result (end_items f items s) (end_items g items t) refl out enough
 
 pub law_of_end : LawOfEnd

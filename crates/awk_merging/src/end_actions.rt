@@ -1,19 +1,19 @@
-// What END of a program with these sums may do: it prints what it reads of them, to standard output.
+// What END of a program with these sums may do: it prints what it makes of them, to standard output.
 
 ghost use Rattle.std.specs.Prelude.{◌≡◌, ◌||◌, not, true, Ok, IfOk, OnOk};
-ghost use Rattle.awk_grammar.specs.Tree.{ForIn};
+ghost use Rattle.awk_grammar.specs.Tree.{For, ForIn};
 ghost use Rattle.awk_grammar.specs.View as g;
 ghost use Rattle.awk_merging.specs.definitions.Sums.{is_taken};
-ghost use Rattle.awk_merging.specs.definitions.Mergeable.{is_sum, is_of_values, is_standard, reads_sums, all_read_sums, are_printed, is_printed, is_simple_print, only_prints, all_only_print};
+ghost use Rattle.awk_merging.specs.definitions.Mergeable.{is_sum, is_of_values, is_standard, is_free, is_changeable, reads_sums, all_read_sums, may_read_sums, are_printed, is_printed, sets_free, is_simple_of_end, is_part_of_end, only_prints, all_only_print};
 ghost use Rattle.awk_pieces.specs.support.Known.{own_of, set_of};
 ghost use Rattle.awk_merging.specs.support.Others.{shown_in};
 ghost use Rattle.awk_merging.specs.support.SumsOf.{sums_of};
 
 use crate::others::{Others, is_shown};
 use crate::sums::{Sum, is_array_sum, is_sum, is_taken};
-use awk_grammar::tree::{Expr, Output, PrintList, SimpleStatement, Statement};
-use awk_lex::token::BuiltIn;
-use awk_pieces::Known;
+use awk_grammar::tree::{Expr, ForParts, Output, PrintList, SimpleStatement, Statement};
+use awk_lex::token::{AssignmentOperator, BuiltIn};
+use awk_pieces::{Known, name_behind, name_set_first};
 use awk_value::Bytes;
 use std::alloc::AllocError;
 
@@ -29,6 +29,27 @@ fn is_of_values(function: BuiltIn, arguments: &[Expr]) -> bool
         | BuiltIn::ToLower
         | BuiltIn::ToUpper
         | BuiltIn::Int => true,
+        _ => false,
+    }
+}
+
+/// Whether the place is a variable that is none of awk's own.
+fn is_free(place: &Expr) -> bool
+    ensures { result ≡ is_free (g.expr_of place.now) }
+{
+    match place {
+        Expr::Name(name) => !is_taken(name.as_slice()),
+        _ => false,
+    }
+}
+
+/// Whether the place is one that END may change: an element, or such a variable.
+fn is_changeable(place: &Expr) -> bool
+    ensures { result ≡ is_changeable (g.expr_of place.now) }
+{
+    match place {
+        Expr::Name(name) => !is_taken(name.as_slice()),
+        Expr::Element(_, _) => true,
         _ => false,
     }
 }
@@ -56,15 +77,18 @@ fn reads_sums(others: &Others, e: &Expr) -> bool
         Expr::BuiltIn(function, arguments) => {
             is_of_values(*function, arguments) && all_read_sums(others, arguments)
         }
+        Expr::PreIncrement(_, place) | Expr::PostIncrement(_, place) => {
+            is_changeable(place) && reads_sums(others, place)
+        }
+        Expr::Assign(_, place, e) => {
+            is_changeable(place) && reads_sums(others, place) && reads_sums(others, e)
+        }
         Expr::Ere(_)
         | Expr::Field(_)
         | Expr::Call(_, _)
         | Expr::Length
-        | Expr::PreIncrement(_, _)
-        | Expr::PostIncrement(_, _)
         | Expr::Getline(_, _)
-        | Expr::PipedGetline(_, _)
-        | Expr::Assign(_, _, _) => false,
+        | Expr::PipedGetline(_, _) => false,
     }
 }
 
@@ -78,6 +102,16 @@ fn all_read_sums(others: &Others, list: &[Expr]) -> bool
         }
     }
     true
+}
+
+/// Whether the expression reads no more than sums, where it isn't left out.
+fn may_read_sums(others: &Others, e: &Option<Box<Expr>>) -> bool
+    ensures { result ≡ may_read_sums (sums_of others.now.sums.now) (shown_in others.now.known.now) (g.optional_expr_of e.now) }
+{
+    match e {
+        Some(e) => reads_sums(others, e),
+        None => true,
+    }
 }
 
 /// Whether there is a list, and it reads no more than sums: without one the record would be printed.
@@ -101,12 +135,39 @@ fn is_standard(output: &Output) -> bool
     matches!(output, Output::Standard)
 }
 
-fn is_simple_print(others: &Others, simple: &SimpleStatement) -> bool
-    ensures { result ≡ is_simple_print (sums_of others.now.sums.now) (shown_in others.now.known.now) (g.simple_of simple.now) }
+/// Whether the expression sets a variable that is none of awk's own, by `=`. It needn't be one that may be read.
+fn sets_free(others: &Others, e: &Expr) -> bool
+    ensures { result ≡ sets_free (sums_of others.now.sums.now) (shown_in others.now.known.now) (g.expr_of e.now) }
+{
+    match e {
+        Expr::Assign(AssignmentOperator::Plain, place, e) => is_free(place)
+            && reads_sums(others, e),
+        _ => false,
+    }
+}
+
+fn is_simple_of_end(others: &Others, simple: &SimpleStatement) -> bool
+    ensures { result ≡ is_simple_of_end (sums_of others.now.sums.now) (shown_in others.now.known.now) (g.simple_of simple.now) }
 {
     match simple {
+        SimpleStatement::Expression(e) => sets_free(others, e) || reads_sums(others, e),
         SimpleStatement::Print(_, list, output) => is_printed(others, list) && is_standard(output),
+        SimpleStatement::Delete(array, subscripts) => {
+            is_array_sum(others.sums, array.as_slice()) && all_read_sums(others, subscripts)
+        }
+        SimpleStatement::DeleteAll(array) => is_array_sum(others.sums, array.as_slice()),
+        SimpleStatement::Exit(e) => may_read_sums(others, e),
+        SimpleStatement::Break | SimpleStatement::Continue => true,
         _ => false,
+    }
+}
+
+fn is_part_of_end(others: &Others, part: &Option<SimpleStatement>) -> bool
+    ensures { result ≡ is_part_of_end (sums_of others.now.sums.now) (shown_in others.now.known.now) (g.optional_simple_of part.now) }
+{
+    match part {
+        Some(simple) => is_simple_of_end(others, simple),
+        None => true,
     }
 }
 
@@ -117,8 +178,8 @@ fn may_be_set(sums: &[Sum], name: &[u8]) -> bool
     !(is_taken(name) || is_sum(sums, name))
 }
 
-/// Whether a statement of END does no more than print what it reads of sums, by conditions and for their keys, where
-/// these variables may be read before it. Where it does, the same may be read behind the call.
+/// Whether a statement of END does no more than print what it makes of sums, where these variables may be read before
+/// it. Where it does, the same may be read behind the call.
 #[cycle(statements)]
 fn only_prints(sums: &[Sum], known: &mut Known, s: &Statement) -> Result<bool, AllocError>
     ensures is { IfOk result (λ is. is ≡ only_prints (own_of known.old) (sums_of sums.now) (shown_in known.old) (g.statement_of s.now)) }
@@ -127,9 +188,9 @@ fn only_prints(sums: &[Sum], known: &mut Known, s: &Statement) -> Result<bool, A
 {
     match s {
         Statement::Empty => Ok(true),
-        Statement::Simple(simple) => Ok(is_simple_print(&Others { sums, known }, simple)),
+        Statement::Simple(simple) => Ok(is_simple_of_end(&Others { sums, known }, simple)),
         Statement::Block(all) => all_only_print(sums, known, all),
-        Statement::If(c, s) => {
+        Statement::If(c, s) | Statement::While(c, s) | Statement::Do(s, c) => {
             Ok(reads_sums(&Others { sums, known }, c) && only_prints(sums, known, s)?)
         }
         Statement::IfElse(c, s, other) => {
@@ -142,8 +203,39 @@ fn only_prints(sums: &[Sum], known: &mut Known, s: &Statement) -> Result<bool, A
             only_prints(sums, known, other)
         }
         Statement::ForIn(variable, array, s) => is_walk(sums, known, variable, array, s),
-        Statement::While(_, _) | Statement::Do(_, _) | Statement::For(_, _) => Ok(false),
+        Statement::For(parts, s) => is_loop_of_end(sums, known, parts, s),
     }
+}
+
+/// The same of a `for`, with these parts and this body: its first part is done before the others.
+#[cycle(statements)]
+fn is_loop_of_end(
+    sums: &[Sum],
+    known: &mut Known,
+    parts: &ForParts,
+    body: &Statement,
+) -> Result<bool, AllocError>
+    ensures is { IfOk result (λ is. is ≡ only_prints (own_of known.old) (sums_of sums.now) (shown_in known.old)
+        (For (g.optional_simple_of parts.now.first) (g.optional_expr_of parts.now.condition) (g.optional_simple_of parts.now.last) (g.statement_of body.now))) }
+    ensures own { OnOk result (own_of known.new ≡ own_of known.old) }
+    ensures set { result ≡ Ok true → set_of known.new ≡ set_of known.old }
+{
+    if !is_part_of_end(&Others { sums, known }, &parts.first) {
+        return Ok(false);
+    }
+    let count = known.len();
+    known.add(name_set_first(&parts.first))?;
+    if !may_read_sums(&Others { sums, known }, &parts.condition) {
+        return Ok(false);
+    }
+    if !is_part_of_end(&Others { sums, known }, &parts.last) {
+        return Ok(false);
+    }
+    if !only_prints(sums, known, body)? {
+        return Ok(false);
+    }
+    known.truncate(count);
+    Ok(true)
 }
 
 /// The same of a loop over keys, which may read the variable that gets them.
@@ -174,8 +266,7 @@ fn is_walk(
     Ok(true)
 }
 
-/// Whether the statements of END do no more than print what they read of sums to standard output, by conditions and
-/// for the keys of sums.
+/// Whether the statements of END do no more than print what they make of sums to standard output.
 #[cycle(statements)]
 pub(crate) fn all_only_print(
     sums: &[Sum],
@@ -186,10 +277,13 @@ pub(crate) fn all_only_print(
     ensures own { OnOk result (own_of known.new ≡ own_of known.old) }
     ensures set { result ≡ Ok true → set_of known.new ≡ set_of known.old }
 {
+    let count = known.len();
     for s in all {
         if !only_prints(sums, known, s)? {
             return Ok(false);
         }
+        known.add(name_behind(s))?;
     }
+    known.truncate(count);
     Ok(true)
 }

@@ -5,7 +5,7 @@ use Rattle.awk_lex.specs.declared.token.IncrementOperator.TheVariants as increme
 use Rattle.awk_lex.specs.declared.token.Operator.TheVariants as operator
 use Rattle.awk_grammar.specs.declared.tree.BinaryOperator.TheVariants.{Infix}
 use Rattle.awk_grammar.specs.declared.tree.PrintForm.TheVariants as form
-use Rattle.awk_grammar.specs.Tree.{Expr, Number, Name, Element, Field, PostIncrement, Binary, Assign, Nil, Cons, Bare, Standard, AnExpr, Expression, Print, ASimple, Statement, Simple, If, ForIn, For, Statements, NoMore, Then, Single, Item, End, Action, PatternAction}
+use Rattle.awk_grammar.specs.Tree.{Expr, Number, String, Name, Element, Field, PostIncrement, Binary, Assign, Nil, Cons, Bare, Standard, AnExpr, Expression, Print, Delete, Exit, ASimple, Statement, Simple, If, ForIn, For, Statements, NoMore, Then, Single, Item, End, Action, PatternAction}
 use Rattle.awk_record.specs.definitions.Cut.{AtEnd}
 use Rattle.awk_streams.specs.Oracle.{Oracle}
 use Rattle.awk_semantics.specs.definitions.Meaning.{StartValues, meaning_of}
@@ -85,9 +85,30 @@ loops_by_sum = Action (one (loop (Binary (Infix operator.Less) (Element (codes "
 abbrev pub ends_with_variable : List Item
 ends_with_variable = Action (one (loop (Binary (Infix operator.LessEqual) (Name (codes "i")) (Name (codes "NF"))))) ∷ End (one (print (Name (codes "i")))) ∷ []
 
+-- END { for (i = 1; i < 3; i++) print n[i] }: END sets a variable that the rules set too, and counts by it
+abbrev pub end_loop : Statement
+end_loop =
+    For (ASimple (Expression (Assign assignment.Plain (Name (codes "i")) (Number (pos 1))))) (AnExpr (Binary (Infix operator.Less) (Name (codes "i")) (Number (pos 3)))) (ASimple (Expression (PostIncrement increment.Increment (Name (codes "i")))))
+    (print (Element (codes "n") (Cons (Name (codes "i")) Nil)))
+
+abbrev pub ends_with_loop : List Item
+ends_with_loop = Action (one (loop (Binary (Infix operator.LessEqual) (Name (codes "i")) (Name (codes "NF"))))) ∷ End (one end_loop) ∷ []
+
+-- { n[$1]++; s += $2 } END { s /= 2; delete n["a"]; exit s }: END changes sums
+abbrev pub ends_with_changes : List Item
+ends_with_changes =
+    Action (Then count (one add))
+    ∷ End (Then (Simple (Expression (Assign assignment.Divide (Name (codes "s")) (Number (pos 2))))) (Then (Simple (Delete (codes "n") (Cons (String (codes "a")) Nil))) (one (Simple (Exit (AnExpr (Name (codes "s")))))))) ∷ []
+
+-- { n[$1]++ } END { OFS = s }: END sets a variable of awk's own
+abbrev pub ends_with_setting : List Item
+ends_with_setting = Action (one count) ∷ End (one (Simple (Expression (Assign assignment.Plain (Name (codes "OFS")) (Name (codes "s")))))) ∷ []
+
 pub record ExamplesOfClass : Type 0 where
   pub is_one : IsMergeable counts
   pub is_loop : IsMergeable loops
+  pub is_end_loop : IsMergeable ends_with_loop
+  pub is_changed : IsMergeable ends_with_changes
   pub loop_has_sum : sums_of_program loops ≡ ByKey (codes "n") ∷ []
   pub has_sums : sums_of_program counts ≡ ByKey (codes "n") ∷ Alone (codes "s") ∷ []
   pub not_reads : are_mergeable (own_in reads) (sums_of_program reads) reads ≡ false
@@ -97,6 +118,7 @@ pub record ExamplesOfClass : Type 0 where
   pub not_sets : are_mergeable (own_in sets) (sums_of_program sets) sets ≡ false
   pub not_loop : are_mergeable (own_in loops_by_sum) (sums_of_program loops_by_sum) loops_by_sum ≡ false
   pub not_variable : are_mergeable (own_in ends_with_variable) (sums_of_program ends_with_variable) ends_with_variable ≡ false
+  pub not_setting : are_mergeable (own_in ends_with_setting) (sums_of_program ends_with_setting) ends_with_setting ≡ false
 
 -- The two programs that are derived of one, run over two pieces, and the program over both.
 

@@ -7,8 +7,8 @@ use Rattle.awk_lex.specs.declared.token.BuiltIn.{BuiltIn as BuiltInName}
 use Rattle.awk_lex.specs.declared.token.BuiltIn.TheVariants as builtin
 use Rattle.awk_lex.specs.declared.token.IncrementOperator.{IncrementOperator}
 use Rattle.awk_lex.specs.declared.token.IncrementOperator.TheVariants as increment
-use Rattle.awk_grammar.specs.Tree.{Expr, Number, String, Name, Element, Group, BuiltIn, PreIncrement, PostIncrement, Unary, Binary, Membership, ListMembership, Conditional, Assign, Exprs, Nil, Cons, PrintList, Bare, Parenthesized, Output, Standard, Redirected, SimpleStatement, Expression, Print, Next, Break, Continue, OptionalSimple, NoSimple, ASimple, Statement, Empty, Simple, Block, If, IfElse, While, Do, ForIn, For, Statements, NoMore, Then, Item, Begin, End, Action, PatternAction}
-use Rattle.awk_pieces.specs.definitions.Pieceable.{tells_apart, keeps_to_record, all_keep_to_record, may_keep_to_record, all_only_set, pattern_keeps_to_record, names_set_in_rules, is_own, sets_own, name_set_first, also, behind}
+use Rattle.awk_grammar.specs.Tree.{Expr, Number, String, Name, Element, Group, BuiltIn, PreIncrement, PostIncrement, Unary, Binary, Membership, ListMembership, Conditional, Assign, Exprs, Nil, Cons, OptionalExpr, NoExpr, AnExpr, PrintList, Bare, Parenthesized, Output, Standard, Redirected, SimpleStatement, Expression, Print, Delete, DeleteAll, Next, Break, Continue, Exit, OptionalSimple, NoSimple, ASimple, Statement, Empty, Simple, Block, If, IfElse, While, Do, ForIn, For, Statements, NoMore, Then, Item, Begin, End, Action, PatternAction}
+use Rattle.awk_pieces.specs.definitions.Pieceable.{tells_apart, is_plain, keeps_to_record, all_keep_to_record, may_keep_to_record, all_only_set, pattern_keeps_to_record, names_set_in_rules, is_own, sets_own, name_set_first, also, behind}
 use Rattle.awk_merging.specs.definitions.Sums.{Sum, ByKey, Alone, name_of_sum, merge_what, merge_key, is_taken}
 
 -- Which sums a program has.
@@ -195,7 +195,21 @@ abbrev pub all_only_set_others : List Sum → Statements → Bool
 all_only_set_others sums NoMore = true
 all_only_set_others sums (Then s all) = only_sets_others sums s && all_only_set_others sums all
 
--- What END prints, where it may read these variables.
+-- What END may do. Both programs come to it with the same sums, and with the same variables that it may read. It changes no others
+-- than these, and to the same, so that all that it prints is the same too.
+
+-- a variable that is none of awk's own
+abbrev pub is_free : (place : Expr) → Bool
+is_free (Name x) = not (is_taken x)
+is_free e = false
+
+-- a place that END may change: an element, or such a variable
+abbrev pub is_changeable : (place : Expr) → Bool
+is_changeable (Name x) = not (is_taken x)
+is_changeable (Element a es) = true
+is_changeable e = false
+
+-- where it may read these variables
 module _ (sums : List Sum) (shown : List ℕ → Bool) where
   abbrev mutual
     pub reads_sums : Expr → Bool
@@ -210,11 +224,18 @@ module _ (sums : List Sum) (shown : List ℕ → Bool) where
     reads_sums (BuiltIn f es) = is_of_values f es && all_read_sums es
     reads_sums (Membership e a) = is_array_sum sums a && reads_sums e
     reads_sums (ListMembership es a) = is_array_sum sums a && all_read_sums es
+    reads_sums (PreIncrement o place) = is_changeable place && reads_sums place
+    reads_sums (PostIncrement o place) = is_changeable place && reads_sums place
+    reads_sums (Assign o place e) = is_changeable place && (reads_sums place && reads_sums e)
     reads_sums e = false
 
     pub all_read_sums : Exprs → Bool
     all_read_sums Nil = true
     all_read_sums (Cons e es) = reads_sums e && all_read_sums es
+
+  abbrev pub may_read_sums : OptionalExpr → Bool
+  may_read_sums NoExpr = true
+  may_read_sums (AnExpr e) = reads_sums e
 
   -- a print of a list: without one the record is printed
   abbrev pub are_printed : Exprs → Bool
@@ -225,25 +246,45 @@ module _ (sums : List Sum) (shown : List ℕ → Bool) where
   is_printed (Bare es) = are_printed es
   is_printed (Parenthesized es) = are_printed es
 
-  abbrev pub is_simple_print : SimpleStatement → Bool
-  is_simple_print (Print form list output) = is_printed list && is_standard output
-  is_simple_print simple = false
+  -- a statement that sets a variable, which needn't be one that may be read
+  abbrev pub sets_free : Expr → Bool
+  sets_free (Assign operator place e) = is_plain operator && (is_free place && reads_sums e)
+  sets_free e = false
+
+  abbrev pub is_simple_of_end : SimpleStatement → Bool
+  is_simple_of_end (Expression e) = sets_free e || reads_sums e
+  is_simple_of_end (Print form list output) = is_printed list && is_standard output
+  is_simple_of_end (Delete a es) = is_array_sum sums a && all_read_sums es
+  is_simple_of_end (DeleteAll a) = is_array_sum sums a
+  is_simple_of_end (Exit e) = may_read_sums e
+  is_simple_of_end Break = true
+  is_simple_of_end Continue = true
+  is_simple_of_end simple = false
+
+  abbrev pub is_part_of_end : OptionalSimple → Bool
+  is_part_of_end NoSimple = true
+  is_part_of_end (ASimple simple) = is_simple_of_end simple
 
 module _ (own : List ℕ → Bool) (sums : List Sum) where
-  -- a statement of END: it prints to standard output, by conditions, and for the keys of sums
+  -- a statement of END: it prints to standard output what it makes of sums. A variable that a statement sets may be read behind
+  -- that, also where the last record left another value in it
   abbrev mutual
     pub only_prints : (shown : List ℕ → Bool) → Statement → Bool
     only_prints shown Empty = true
-    only_prints shown (Simple simple) = is_simple_print sums shown simple
+    only_prints shown (Simple simple) = is_simple_of_end sums shown simple
     only_prints shown (Block all) = all_only_print shown all
     only_prints shown (If c s) = reads_sums sums shown c && only_prints shown s
     only_prints shown (IfElse c s other) = reads_sums sums shown c && (only_prints shown s && only_prints shown other)
+    only_prints shown (While c s) = reads_sums sums shown c && only_prints shown s
+    only_prints shown (Do s c) = reads_sums sums shown c && only_prints shown s
+    only_prints shown (For first c last s) =
+        is_part_of_end sums shown first && (may_read_sums sums (also own (name_set_first first) shown) c
+        && (is_part_of_end sums (also own (name_set_first first) shown) last && only_prints (also own (name_set_first first) shown) s))
     only_prints shown (ForIn x a s) = not (is_taken x || is_sum sums x) && (is_array_sum sums a && only_prints (also own (Some x) shown) s)
-    only_prints shown s = false
 
     pub all_only_print : (shown : List ℕ → Bool) → Statements → Bool
     all_only_print shown NoMore = true
-    all_only_print shown (Then s all) = only_prints shown s && all_only_print shown all
+    all_only_print shown (Then s all) = only_prints shown s && all_only_print (behind own s shown) all
 
   abbrev pub is_mergeable_item : Item → Bool
   is_mergeable_item (Begin block) = all_only_set block && all_only_set_others sums block
