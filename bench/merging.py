@@ -49,7 +49,7 @@ class Writer(Rules):
     # END.
 
     def of_sums(self, depth):
-        kind, less = self.numbers.randrange(9 if depth > 0 else 5), depth - 1
+        kind, less = self.numbers.randrange(10 if depth > 0 else 5), depth - 1
         if kind < 2 and self.sums:
             return self.pick(self.sums)
         if kind < 4 and self.arrays:
@@ -60,6 +60,8 @@ class Writer(Rules):
             return f"({self.of_sums(less)} {self.pick(['+', '-', '*', '<', '=='])} {self.of_sums(less)})"
         if kind == 6:
             return f"length({self.of_sums(less)})"
+        if kind == 9:
+            return f"({self.of_sums(less)} {self.pick(['~', '!~'])} {self.pick(['/1/', '/^a/', '/[2-4]$/', self.of_sums(less)])})"
         if kind == 7:
             return f"sprintf(\"%5s|\", {self.of_sums(less)})"
         if self.arrays:

@@ -7,7 +7,9 @@ use crate::reasons::{
 use crate::statements::{StatementScan, begins_for, have_name, is_of_awk, names_set};
 use awk_findings::Finding;
 use awk_findings::calls::{kind_before, kind_behind};
-use awk_lex::token::{AssignmentOperator, BuiltIn, IncrementOperator, Keyword, Kind, Token};
+use awk_lex::token::{
+    AssignmentOperator, BuiltIn, IncrementOperator, Keyword, Kind, Operator, Token,
+};
 use awk_merging::Sum;
 use awk_pieces::tells_apart;
 use std::alloc::{AllocError, Global};
@@ -282,7 +284,10 @@ impl<'a> MergingScan<'a> {
             Kind::Keyword(keyword) => self.reason_of_keyword(at, *keyword),
             Kind::BuiltIn(function) => self.reason_of_call(alloc, at, *function)?,
             Kind::Dollar if self.part() == Part::End => b" reads a field in END",
-            Kind::Ere(_) if self.part() == Part::End => b" in END",
+            Kind::Ere(_) if self.part() == Part::End => match kind_before(self.tokens, at, 1) {
+                Some(Kind::Operator(Operator::Matches | Operator::NotMatches)) => b"",
+                _ => b" in END is of the record",
+            },
             _ => self.statements.items.reason(kind),
         })
     }

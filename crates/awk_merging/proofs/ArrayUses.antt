@@ -8,11 +8,12 @@ use Rattle.awk_kinds.specs.declared.variable.Variable.TheVariants.{Global, Param
 use Rattle.awk_kinds.specs.declared.uses.ArrayUse.{ArrayUse}
 use Rattle.awk_kinds.specs.declared.uses.ArrayUse.TheVariants.{Used, Passed}
 use Rattle.awk_kinds.specs.definitions.Kinds.{Scope, split_into, uses_in_expr, uses_in_list, uses_in_print_list, uses_in_output, uses_in_simple, uses_in_optional_expr, uses_in_optional_simple, uses_in_statement, uses_in_block, uses_in_pattern, outside_functions, uses_in_item, uses_in}
+use Rattle.awk_grammar.specs.declared.tree.BinaryOperator.{BinaryOperator}
 use Rattle.awk_grammar.specs.Tree.{Expr, Number, String, Ere, Name, Element, Field, Group, Call, BuiltIn, Length, PreIncrement, PostIncrement, Getline, PipedGetline, Unary, Binary, Membership, ListMembership, Conditional, Assign, Exprs, Nil, Cons, PrintList, Bare, Parenthesized, Output, Standard, Redirected, SimpleStatement, Expression, Print, Delete, DeleteAll, Next, NextFile, Break, Continue, Exit, Return, OptionalExpr, NoExpr, AnExpr, OptionalSimple, NoSimple, ASimple, Statement, Empty, Simple, Block, If, IfElse, While, Do, ForIn, For, Statements, NoMore, Then, Pattern, Single, Range, Item, Begin, End, Action, PatternAction, PatternOnly, Function}
 use Rattle.awk_pieces.specs.definitions.Pieceable.{no_own, may_be_called, keeps_to_record, all_keep_to_record, may_keep_to_record, is_of_record, is_own_place, sets_own, name_set_first, also, behind, is_plain, may_be_set, is_setting, is_simple_setting, only_sets, all_only_set, pattern_keeps_to_record}
 use Rattle.awk_pieces.proofs.ReadsAlike.{left_true, right_true}
 use Rattle.awk_merging.specs.definitions.Sums.{Sum, is_taken}
-use Rattle.awk_merging.specs.definitions.Mergeable.{is_plus, is_plus_one, is_array_sum, knows, is_of_values, is_standard, is_sum, is_sum_place, is_addition, is_simple_summing, is_part_summing, only_sums, all_only_sum, shows, is_free, is_changeable, reads_sums, all_read_sums, may_read_sums, are_printed, is_printed, sets_free, is_simple_of_end, is_part_of_end, only_prints, all_only_print, is_mergeable_item, are_mergeable}
+use Rattle.awk_merging.specs.definitions.Mergeable.{is_plus, is_plus_one, is_array_sum, knows, is_of_values, is_standard, is_sum, is_sum_place, is_addition, is_simple_summing, is_part_summing, only_sums, all_only_sum, shows, is_free, is_changeable, is_pattern, reads_sums, all_read_sums, may_read_sums, are_printed, is_printed, sets_free, is_simple_of_end, is_part_of_end, only_prints, all_only_print, is_mergeable_item, are_mergeable}
 
 abbrev plain : Scope
 plain = outside_functions
@@ -305,6 +306,10 @@ module _ (own : List ℕ → Bool) (xs : List Sum) where
 
   -- END
 
+  pattern_shown : (o : BinaryOperator) (e : Expr) → is_pattern o e ≡ true → Fine (uses_in_expr plain e)
+  pattern_shown o (Ere text) is = tt
+  pattern_shown o e is = absurd (cc)
+
   module _ (visible : List ℕ → Bool) where
     mutual
       shown : (e : Expr) → reads_sums xs visible e ≡ true → Fine (uses_in_expr plain e)
@@ -314,7 +319,10 @@ module _ (own : List ℕ → Bool) (xs : List Sum) where
       shown (Element a es) is = (left_true (is_array_sum xs a) _ is, all_shown es (right_true (is_array_sum xs a) _ is))
       shown (Group e) is = shown e is
       shown (Unary o e) is = shown e is
-      shown (Binary o a b) is = both (uses_in_expr plain a) (uses_in_expr plain b) (shown a (left_true (reads_sums xs visible a) _ is)) (shown b (right_true (reads_sums xs visible a) _ is))
+      shown (Binary o a b) is =
+          let right : Fine (uses_in_expr plain b)
+          = elim (or_cases (is_pattern o b) (reads_sums xs visible b) (right_true (reads_sums xs visible a) _ is)) [ inl pattern ↦ pattern_shown o b pattern | inr reads ↦ shown b reads ] in
+          both (uses_in_expr plain a) (uses_in_expr plain b) (shown a (left_true (reads_sums xs visible a) _ is)) right
       shown (Conditional c a b) is =
           let rest = right_true (reads_sums xs visible c) _ is in
           both (uses_in_expr plain c) (uses_in_expr plain a ++ uses_in_expr plain b) (shown c (left_true (reads_sums xs visible c) _ is))

@@ -17,6 +17,7 @@ use Rattle.awk_lex.specs.declared.token.BuiltIn.{BuiltIn as BuiltInName}
 use Rattle.awk_lex.specs.declared.token.BuiltIn.TheVariants as builtin
 use Rattle.awk_grammar.specs.declared.tree.PrintForm.{PrintForm}
 use Rattle.awk_grammar.specs.declared.tree.PrintForm.TheVariants as form
+use Rattle.awk_grammar.specs.declared.tree.BinaryOperator.{BinaryOperator}
 use Rattle.awk_grammar.specs.Tree.{Expr, Number, String, Ere, Name, Element, Field, Group, Call, BuiltIn, Length, PreIncrement, PostIncrement, Getline, PipedGetline, Unary, Binary, Membership, ListMembership, Conditional, Assign, Exprs, Nil, Cons, OptionalExpr, NoExpr, AnExpr, PrintList, Bare, Parenthesized, Output, Standard, Redirected, SimpleStatement, Expression, Print, Delete, DeleteAll, Next, NextFile, Break, Continue, Exit, Return, OptionalSimple, NoSimple, ASimple, Statement, Empty, Simple, Block, If, IfElse, While, Do, ForIn, For, Statements, NoMore, Then, Item, Begin, End, Action, PatternAction, PatternOnly, Function}
 use Rattle.awk_semantics.specs.declared.flow.Flow.{Flow}
 use Rattle.awk_semantics.specs.declared.flow.Flow.TheVariants as flow
@@ -28,7 +29,7 @@ use Rattle.awk_semantics.specs.definitions.Primitives.{number_of, read_name, rea
 use Rattle.awk_semantics.specs.definitions.Faults.{of_values}
 use Rattle.awk_semantics.specs.definitions.Places.{Place, AName, AnElement, AField, read_place, store, assign, assign_by, post_increment}
 use Rattle.awk_semantics.specs.definitions.BuiltIns.{Role, AsValue, AsPattern, AsArray, AsPlace, AsMeasured, roles_of, Argument, OfValue, OfEre, OfArray, OfPlace, value_of, bare_name, array_or_value, array_named_or, applied_all, count_elements, apply_built_in}
-use Rattle.awk_semantics.specs.definitions.Semantics.{Functions, eval, place_of, key_of, take_arguments, eval_all, printed_values, target_of, print_by, print, begin_test, exit_with, exec_simple, exec_part, goes_on, turn, unless_ended, repeat_within, repeat, walk, pass_on, exec, exec_all}
+use Rattle.awk_semantics.specs.definitions.Semantics.{Functions, eval, place_of, key_of, take_arguments, eval_all, printed_values, target_of, print_by, print, begin_test, right_operand, exit_with, exec_simple, exec_part, goes_on, turn, unless_ended, repeat_within, repeat, walk, pass_on, exec, exec_all}
 use Rattle.awk_semantics.specs.definitions.Items.{run_action, end_item, end_items}
 use Rattle.awk_semantics.specs.definitions.Meaning.{outcome_of}
 use Rattle.awk_pieces.specs.definitions.Pieceable.{no_own, is_plain, tells_apart, name_set, name_set_by, name_set_first, name_behind, also, behind}
@@ -38,7 +39,7 @@ use Rattle.awk_pieces.proofs.PlacesAlike.{known_before, within_also}
 use Rattle.awk_pieces.proofs.ReadsAlike.{left_true, right_true}
 use Rattle.awk_pieces.proofs.ValuesAndFaults.{IsValueOrFault, of_values_faults, changed_faults, applied_faults, format_faults, applied_all_faults}
 use Rattle.awk_merging.specs.definitions.Sums.{Sum, is_taken}
-use Rattle.awk_merging.specs.definitions.Mergeable.{own_in, sums_of_program, is_sum, is_array_sum, is_derived, is_shown, shows, is_of_values, is_standard, is_free, is_changeable, reads_sums, all_read_sums, may_read_sums, are_printed, is_printed, sets_free, is_simple_of_end, is_part_of_end, only_prints, all_only_print, is_mergeable_item, are_mergeable}
+use Rattle.awk_merging.specs.definitions.Mergeable.{own_in, sums_of_program, is_sum, is_array_sum, is_derived, is_shown, shows, is_of_values, is_standard, is_free, is_changeable, is_pattern, reads_sums, all_read_sums, may_read_sums, are_printed, is_printed, sets_free, is_simple_of_end, is_part_of_end, only_prints, all_only_print, is_mergeable_item, are_mergeable}
 use Rattle.awk_merging.specs.definitions.LawOfEnd.{ShowAlike, EndAlike, LawOfEnd}
 use Rattle.awk_merging.proofs.EndArguments.{IsShownName, IsShownArgument, AreMeasured, AreTaken, is_length, Begun, all_taken, begun_on, begun_first, MayTake, may_take, AreSome, bare_shown}
 use Rattle.awk_merging.proofs.OwnVariables.{AreOwn, not_true, own_apart}
@@ -293,6 +294,10 @@ module _ (shown : Names) (may : Shows shown) (xs : List Sum) (proper : AreProper
   built_in_alike builtin.Close es arguments may are = absurd (cc)
   built_in_alike builtin.Fflush es arguments may are = absurd (cc)
 
+  pattern_operand : (c : BinaryOperator) (e : Expr) (m n : Run Value) → is_pattern c e ≡ true → Does (right_operand (takes_pattern c) e m) (right_operand (takes_pattern c) e n)
+  pattern_operand c (Ere text) m n is = rw is (gives_back (value.Text text))
+  pattern_operand c e m n is = absurd (cc)
+
   module _ (f g : Functions) where
     mutual
       unfolding eval
@@ -305,7 +310,12 @@ module _ (shown : Names) (may : Shows shown) (xs : List Sum) (proper : AreProper
       expression_alike (Group e) is = expression_alike e is
       expression_alike (Unary c e) is = next _ _ (expression_alike e is) (λ v. lift_alike shown xs proper base base' (changed c v) (changed_faults c v))
       expression_alike (Binary c a b) is =
-          combined_alike shown xs proper base base' c (expression_alike a (left_true (reads_sums xs shown a) _ is)) (right_alike shown xs proper base base' (takes_pattern c) b (expression_alike b (right_true (reads_sums xs shown a) _ is)))
+          let right : Does (right_operand (takes_pattern c) b (eval f b)) (right_operand (takes_pattern c) b (eval g b))
+          = elim (or_cases (is_pattern c b) (reads_sums xs shown b) (right_true (reads_sums xs shown a) _ is)) [
+            | inl pattern ↦ pattern_operand c b (eval f b) (eval g b) pattern
+            | inr reads ↦ right_alike shown xs proper base base' (takes_pattern c) b (expression_alike b reads)
+          ] in
+          combined_alike shown xs proper base base' c (expression_alike a (left_true (reads_sums xs shown a) _ is)) right
       expression_alike (Conditional c a b) is =
           let both = right_true (reads_sums xs shown c) _ is in
           let here = expression_alike a (left_true (reads_sums xs shown a) _ both) in

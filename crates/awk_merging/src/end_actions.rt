@@ -3,16 +3,19 @@
 ghost use Rattle.std.specs.Prelude.{◌≡◌, ◌||◌, not, true, Ok, IfOk, OnOk};
 ghost use Rattle.awk_grammar.specs.Tree.{For, ForIn};
 ghost use Rattle.awk_grammar.specs.View as g;
+ghost use Rattle.awk_semantics.specs.definitions.Operators.{takes_pattern};
 ghost use Rattle.awk_merging.specs.definitions.Sums.{is_taken};
-ghost use Rattle.awk_merging.specs.definitions.Mergeable.{is_sum, is_of_values, is_standard, is_free, is_changeable, reads_sums, all_read_sums, may_read_sums, are_printed, is_printed, sets_free, is_simple_of_end, is_part_of_end, only_prints, all_only_print};
+ghost use Rattle.awk_merging.specs.definitions.Mergeable.{is_sum, is_of_values, is_standard, is_free, is_changeable, is_pattern, reads_sums, all_read_sums, may_read_sums, are_printed, is_printed, sets_free, is_simple_of_end, is_part_of_end, only_prints, all_only_print};
 ghost use Rattle.awk_pieces.specs.support.Known.{own_of, set_of};
 ghost use Rattle.awk_merging.specs.support.Others.{shown_in};
 ghost use Rattle.awk_merging.specs.support.SumsOf.{sums_of};
 
 use crate::others::{Others, is_shown};
 use crate::sums::{Sum, is_array_sum, is_sum, is_taken};
-use awk_grammar::tree::{Expr, ForParts, Output, PrintList, SimpleStatement, Statement};
-use awk_lex::token::{AssignmentOperator, BuiltIn};
+use awk_grammar::tree::{
+    BinaryOperator, Expr, ForParts, Output, PrintList, SimpleStatement, Statement,
+};
+use awk_lex::token::{AssignmentOperator, BuiltIn, Operator};
 use awk_pieces::{Known, name_behind, name_set_first};
 use awk_value::Bytes;
 use std::alloc::AllocError;
@@ -54,6 +57,26 @@ fn is_changeable(place: &Expr) -> bool
     }
 }
 
+/// Whether an operand right of the operator may be an ERE, which is that pattern then.
+fn takes_pattern(operator: BinaryOperator) -> bool
+    ensures { result ≡ takes_pattern operator }
+{
+    matches!(
+        operator,
+        BinaryOperator::Infix(Operator::Matches | Operator::NotMatches)
+    )
+}
+
+/// Whether it is an ERE right of `~` and `!~`: alone it would be whether the record has a match.
+fn is_pattern(operator: BinaryOperator, e: &Expr) -> bool
+    ensures { result ≡ is_pattern operator (g.expr_of e.now) }
+{
+    match e {
+        Expr::Ere(_) => takes_pattern(operator),
+        _ => false,
+    }
+}
+
 #[cycle(expressions)]
 fn reads_sums(others: &Others, e: &Expr) -> bool
     ensures { result ≡ reads_sums (sums_of others.now.sums.now) (shown_in others.now.known.now) (g.expr_of e.now) }
@@ -62,7 +85,9 @@ fn reads_sums(others: &Others, e: &Expr) -> bool
         Expr::Number(_) | Expr::String(_) => true,
         Expr::Name(name) => is_shown(others.known, name.as_slice()),
         Expr::Group(e) | Expr::Unary(_, e) => reads_sums(others, e),
-        Expr::Binary(_, a, b) => reads_sums(others, a) && reads_sums(others, b),
+        Expr::Binary(operator, a, b) => {
+            reads_sums(others, a) && (is_pattern(*operator, b) || reads_sums(others, b))
+        }
         Expr::Conditional(c, a, b) => {
             reads_sums(others, c) && reads_sums(others, a) && reads_sums(others, b)
         }

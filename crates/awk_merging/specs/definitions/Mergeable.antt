@@ -7,7 +7,9 @@ use Rattle.awk_lex.specs.declared.token.BuiltIn.{BuiltIn as BuiltInName}
 use Rattle.awk_lex.specs.declared.token.BuiltIn.TheVariants as builtin
 use Rattle.awk_lex.specs.declared.token.IncrementOperator.{IncrementOperator}
 use Rattle.awk_lex.specs.declared.token.IncrementOperator.TheVariants as increment
-use Rattle.awk_grammar.specs.Tree.{Expr, Number, String, Name, Element, Group, BuiltIn, PreIncrement, PostIncrement, Unary, Binary, Membership, ListMembership, Conditional, Assign, Exprs, Nil, Cons, OptionalExpr, NoExpr, AnExpr, PrintList, Bare, Parenthesized, Output, Standard, Redirected, SimpleStatement, Expression, Print, Delete, DeleteAll, Next, Break, Continue, Exit, OptionalSimple, NoSimple, ASimple, Statement, Empty, Simple, Block, If, IfElse, While, Do, ForIn, For, Statements, NoMore, Then, Item, Begin, End, Action, PatternAction}
+use Rattle.awk_grammar.specs.declared.tree.BinaryOperator.{BinaryOperator}
+use Rattle.awk_grammar.specs.Tree.{Expr, Number, String, Ere, Name, Element, Group, BuiltIn, PreIncrement, PostIncrement, Unary, Binary, Membership, ListMembership, Conditional, Assign, Exprs, Nil, Cons, OptionalExpr, NoExpr, AnExpr, PrintList, Bare, Parenthesized, Output, Standard, Redirected, SimpleStatement, Expression, Print, Delete, DeleteAll, Next, Break, Continue, Exit, OptionalSimple, NoSimple, ASimple, Statement, Empty, Simple, Block, If, IfElse, While, Do, ForIn, For, Statements, NoMore, Then, Item, Begin, End, Action, PatternAction}
+use Rattle.awk_semantics.specs.definitions.Operators.{takes_pattern}
 use Rattle.awk_pieces.specs.definitions.Pieceable.{tells_apart, is_plain, keeps_to_record, all_keep_to_record, may_keep_to_record, all_only_set, pattern_keeps_to_record, names_set_in_rules, is_own, sets_own, name_set_first, also, behind}
 use Rattle.awk_merging.specs.definitions.Sums.{Sum, ByKey, Alone, name_of_sum, merge_what, merge_key, is_taken}
 
@@ -209,6 +211,11 @@ is_changeable (Name x) = not (is_taken x)
 is_changeable (Element a es) = true
 is_changeable e = false
 
+-- an ERE right of `~` and `!~`: alone it would be whether the record has a match
+abbrev pub is_pattern : BinaryOperator → Expr → Bool
+is_pattern o (Ere text) = takes_pattern o
+is_pattern o e = false
+
 -- where it may read these variables
 module _ (sums : List Sum) (shown : List ℕ → Bool) where
   abbrev mutual
@@ -219,7 +226,7 @@ module _ (sums : List Sum) (shown : List ℕ → Bool) where
     reads_sums (Element a es) = is_array_sum sums a && all_read_sums es
     reads_sums (Group e) = reads_sums e
     reads_sums (Unary o e) = reads_sums e
-    reads_sums (Binary o a b) = reads_sums a && reads_sums b
+    reads_sums (Binary o a b) = reads_sums a && (is_pattern o b || reads_sums b)
     reads_sums (Conditional c a b) = reads_sums c && (reads_sums a && reads_sums b)
     reads_sums (BuiltIn f es) = is_of_values f es && all_read_sums es
     reads_sums (Membership e a) = is_array_sum sums a && reads_sums e
