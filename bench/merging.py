@@ -85,8 +85,8 @@ class Writer(Rules):
         if kind == 0 and self.arrays:
             return f"delete {self.pick([self.element(0), self.pick(self.arrays)])}"
         if kind == 1 and depth > 0:
-            i = self.pick([f"i{depth}"] + (self.variables if depth == 2 else []))
-            return f"for ({i} = 0; {i} < {times}; {i}++) {self.all_shown(depth - 1)}"
+            i, j = f"i{depth}", self.pick(self.variables)
+            return self.pick([f"for ({i} = 0; {i} < {times}; {i}++) {self.all_shown(depth - 1)}", f"for ({j} = 0; {j} < {times}; {j}++) print {j}, {self.of_sums(1)}"])
         if kind == 2 and depth > 0:
             return f"{{ w{depth} = {times}; while (w{depth}-- > 0) {self.all_shown(depth - 1)} }}"
         if kind == 3 and depth > 0:

@@ -197,8 +197,8 @@ abbrev pub all_only_set_others : List Sum → Statements → Bool
 all_only_set_others sums NoMore = true
 all_only_set_others sums (Then s all) = only_sets_others sums s && all_only_set_others sums all
 
--- What END may do. Both programs come to it with the same sums, and with the same variables that it may read. It changes no others
--- than these, and to the same, so that all that it prints is the same too.
+-- What END may do. Both programs come to it with the same sums, and with the same values of the variables that it may read. What it
+-- sets it sets to the same in both, and nothing comes behind it, so all that it prints is the same too.
 
 -- a variable that is none of awk's own
 abbrev pub is_free : (place : Expr) → Bool
