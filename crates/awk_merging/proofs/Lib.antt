@@ -12,6 +12,8 @@ pub mod ClassTried
 pub mod Decimals
 pub mod DerivedParts
 pub mod EndArguments
+pub mod EndNames
+pub mod EndValues
 pub mod EndShown
 pub mod FirstRun
 pub mod FirstStates

@@ -1,12 +1,12 @@
 -- The variables of the record that a program has: none of awk's own, and no sum.
-use Rattle.std.proofs.Common.{◌≡◌, inl, inr, ℕ, Bool, true, false, ◌&&◌, ◌||◌, not, List, [], ◌∷◌, refl, sym, ap, ◌∙◌, bytes_eq, codes}
+use Rattle.std.proofs.Common.{◌≡◌, inl, inr, ℕ, Bool, true, false, ◌||◌, not, List, [], ◌∷◌, refl, sym, ap, ◌∙◌, bytes_eq}
 use Rattle.std.proofs.lemmas.Bool.{cases_Bool}
 use Rattle.awk_kinds.specs.Names.{has_name}
 use Rattle.awk_grammar.specs.Tree.{Item}
 use Rattle.awk_pieces.specs.definitions.Pieceable.{tells_apart, is_setting_of_awk, names_set_in_rules}
 use Rattle.awk_pieces.proofs.Alike.{Names}
 use Rattle.awk_pieces.proofs.ReadsAlike.{left_true, right_true}
-use Rattle.awk_merging.specs.definitions.Sums.{Sum, Alone, name_of_sum}
+use Rattle.awk_merging.specs.definitions.Sums.{Sum, name_of_sum}
 use Rattle.awk_merging.specs.definitions.LawOfDerived.{IsOneOf}
 use Rattle.awk_merging.specs.definitions.Mergeable.{own_in, sums_of_program, is_sum, is_other, knows}
 use Rattle.awk_merging.proofs.Gathering.{same_key, not_both}

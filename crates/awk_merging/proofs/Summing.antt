@@ -14,13 +14,12 @@ use Rattle.awk_semantics.specs.definitions.Primitives.{spend, spend_of}
 use Rattle.awk_semantics.specs.declared.flow.Flow.{Flow}
 use Rattle.awk_semantics.specs.definitions.Semantics.{tested, choose, turn, unless_ended, repeat_within, repeat}
 use Rattle.awk_pieces.specs.definitions.Pieceable.{tells_apart, is_setting_of_awk, also}
-use Rattle.awk_pieces.proofs.Alike.{Outer, Names, OwnsSeparators, Sorts, Values, AgreeOn, IsWithin, SameKinds, SetsApart}
+use Rattle.awk_pieces.proofs.Alike.{Outer, Names, Sorts, Values, AgreeOn, IsWithin, SameKinds, SetsApart}
 use Rattle.awk_pieces.proofs.Alike.{state_on as plain_state, Same as PlainSame, Covers as PlainCovers, Alike as PlainAlike}
 use Rattle.awk_pieces.proofs.LoopsAlike.{unless_alike, turn_alike, repeat_within_alike}
 use Rattle.awk_pieces.proofs.PlacesAlike.{within_also}
 use Rattle.awk_pieces.proofs.ReadsAlike.{left_true, right_true}
-use Rattle.awk_merging.specs.definitions.Sums.{Sum, Alone, is_taken}
-use Rattle.awk_merging.specs.definitions.LawOfDerived.{IsOneOf}
+use Rattle.awk_merging.specs.definitions.Sums.{Sum, Alone}
 use Rattle.awk_merging.specs.definitions.LawOfStates.{Tables}
 use Rattle.awk_merging.specs.definitions.Mergeable.{is_sum, is_derived, knows}
 use Rattle.awk_merging.specs.definitions.LawOfRules.{ahead, IsAhead, KeepsOthers}
