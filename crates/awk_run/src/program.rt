@@ -6,6 +6,9 @@ ghost use Rattle.awk_lex.specs.Refused.{IsOutOfMemory};
 ghost use Rattle.awk_grammar.specs.Tree.{Item};
 ghost use Rattle.awk_streams.specs.Streams.{AreSound};
 ghost use Rattle.awk_streams.specs.WorldState.{WorldState};
+ghost use Rattle.awk_semantics.specs.Meaning.{StartValues};
+ghost use Rattle.awk_semantics.specs.declared.fault.Fault.TheVariants.{WriteFailed};
+ghost use Rattle.awk_semantics.specs.declared.outcome.Outcome.TheVariants.{Fault as ByFault};
 ghost use Rattle.awk_run.specs.definitions.Accepted.{Accepted, RefusedFor};
 ghost use Rattle.awk_run.specs.definitions.Headline.{Executed};
 ghost use Rattle.awk_run.specs.definitions.Runs.{IsUntouched, RunsFrom, RunsSince};
@@ -193,3 +196,9 @@ pub fn law_of_untouched()
 {
     some_oracle_is_consistent();
 }
+
+/// A run that met no failure of its own doesn't end with fault 2, whatever failed in its world before.
+pub fn law_of_failed_writes()
+    ensures { (items : List Item) (start : StartValues) (limit : ℕ) (world : WorldState) →
+        RunsSince (Unit {0}) items start limit world world (ByFault WriteFailed) → ⊥ }
+{}

@@ -1,5 +1,5 @@
 -- The whole language: what a run of a text leaves is what the text means.
-use Rattle.std.specs.Prelude.{◌≡◌, ℕ, List, Result, IfOk, IfErr}
+use Rattle.std.specs.Prelude.{ℕ, List, Result, IfOk, IfErr}
 use Rattle.awk_lex.specs.declared.refusal.Refusal.{Refusal}
 use Rattle.awk_lex.specs.Refused.{IsOutOfMemory}
 use Rattle.awk_streams.specs.WorldState.{WorldState}

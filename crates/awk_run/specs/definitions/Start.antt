@@ -1,5 +1,5 @@
 -- What a run is started with.
-use Rattle.std.specs.Prelude.{◌≡◌, ℕ, List, [], map}
+use Rattle.std.specs.Prelude.{◌≡◌, [], map}
 use Rattle.awk_run.specs.declared.start.Start.{Start}
 use Rattle.awk_semantics.specs.Meaning.{StartValues}
 pub use Rattle.awk_runtime.specs.Beginning.{pair_of}

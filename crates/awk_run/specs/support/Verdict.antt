@@ -1,8 +1,7 @@
 -- What the parts of a whole run answer.
-use Rattle.std.specs.Prelude.{◌≡◌, ◌≤◌, ℕ, List, [], None, Result, Ok, Err}
+use Rattle.std.specs.Prelude.{[], None, Result, Ok, Err}
 use Rattle.awk_streams.specs.declared.fault.StreamFault.{StreamFault}
 use Rattle.awk_streams.specs.WorldState.{WorldState}
-use Rattle.awk_streams.specs.Oracle.{Oracle}
 use Rattle.awk_streams.specs.Streams.{StreamsView}
 use Rattle.awk_streams.specs.Commands.{Finishes}
 use Rattle.awk_semantics.specs.declared.outcome.Outcome.{Outcome}
