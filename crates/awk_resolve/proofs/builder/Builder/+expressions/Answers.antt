@@ -1,7 +1,4 @@
-use Rattle.std.proofs.Common.{Option, None, ◌≡◌, ℕ, suc, ◌-◌, Bool, true, false, List, [], rules, get_or, drop, length, refl, sym, subst, ap, ◌∙◌, true≢false, arith, to_z, of_z}
-use Rattle.awk_grammar.specs.declared.tree.Expr.{Expr as CodeExpr}
-use Rattle.awk_grammar.specs.declared.tree.Expr.TheVariants as code
-use Rattle.std.specs.Global.{Box}
+use Rattle.std.proofs.Common.{None, ◌≡◌, suc, ◌-◌, Bool, true, false, List, [], rules, get_or, drop, length, refl, sym, subst, ap, ◌∙◌, true≢false, arith, to_z, of_z}
 use mir.Syntax.{w128}
 use Rattle.awk_grammar.specs.declared.tree.Expr.TheViews.{the_lemmas}
 use Rattle.awk_lex.specs.declared.token.Operator.TheVariants as o
@@ -9,11 +6,8 @@ use Rattle.awk_grammar.specs.declared.tree.BinaryOperator.TheVariants.{Concatena
 use Rattle.awk_grammar.specs.Tree as tree
 use Rattle.awk_grammar.specs.View.{expr_of, exprs_of, optional_expr_of}
 use Rattle.std.proofs.lemmas.Option.{get_or_from_slice_get}
-use Rattle.awk_kinds.specs.definitions.Kinds.{FormalParameter}
-use Rattle.awk_kinds.specs.definitions.Signatures.{ProgramKinds}
 use Rattle.awk_kinds.proofs.Rows.{row_is_list}
-use Rattle.awk_resolve.specs.declared.builder.Builder.{Builder}
-use Rattle.awk_resolve.specs.support.Builds.{array_parameters_in, Part, EvaluateAll, EvaluateArguments, Builds as Builds'}
+use Rattle.awk_resolve.specs.support.Builds.{array_parameters_in, EvaluateAll, EvaluateArguments}
 use Rattle.awk_resolve.specs.support.Appends.{without_first}
 use Rattle.awk_resolve.specs.support.Parts.{is_concatenation, parts_of}
 use Rattle.awk_resolve.specs.support.Calls.{arrays_of, is_array_at, roles_from}
@@ -32,6 +26,7 @@ use Rattle.awk_resolve.proofs.CallForms.{call_fits, call_lowered, no_arguments, 
 use Rattle.awk_resolve.proofs.BuiltInForms.{IsPlain, strict_applied, record_length_lowered, count_lowered, length_of_lowered, flush_all_lowered, flush_lowered, match_lowered, fields_split, split_lowered}
 use Rattle.awk_resolve.proofs.OperandCalls.{operands_applied, behind_applied, length_of_operand}
 use Rattle.awk_resolve.proofs.SubstituteForms.{substitute_lowered, substitute_place_lowered}
+use Rattle.awk_resolve.proofs.TreeForms.{getline_is, piped_is, same_arrays}
 use Rattle.awk_resolve.proofs.GetlineForms.{nothing_stays, something_lowered, no_operand_stays, operand_there, getline_lowered, piped_getline_lowered}
 use Rattle.awk_resolve.proofs.builder.Builder.+expressions.Goals as goal
 use Rattle.awk_resolve.proofs.builder.Builder.+expressions.Goals.{lower_parts-in_default-via-in-Binary+in_default, lower_parts-in_default-via-in_default, lower_behind_first-in_default-via-in-Binary+in_default, lower_behind_first-in_default-via-in_default, lower_built_in-else-takes_one-via-then-takes_one+else-list-ne1, lower_built_in-else-takes_one-via-else-takes_one, lower_match_test-in_default-via-in-Number-1, lower_match_test-in_default-via-in-Ere+in_ok-operand+in-None-1}
@@ -120,12 +115,6 @@ pub lower-returns-in-BuiltIn : goal.lower-returns-in-BuiltIn
 lower-returns-in-BuiltIn t c =
     let is : expr_of c.args.e.now ≡ tree.BuiltIn c.in-BuiltIn.function (exprs_of c.in-BuiltIn.list.items) = search (rules, the_lemmas, row_is_list) in
     rw is (rw c.deref-in-BuiltIn.ensures.value at c.lower_built_in.ensures)
-
-getline_is : (e : CodeExpr) (place file : Option (Box CodeExpr)) → e ≡ code.Getline place file → expr_of e ≡ tree.Getline (optional_expr_of place) (optional_expr_of file)
-getline_is e place file is = search (rules, the_lemmas)
-
-piped_is : (e : CodeExpr) (command : Box CodeExpr) (place : Option (Box CodeExpr)) → e ≡ code.PipedGetline command place → expr_of e ≡ tree.PipedGetline (expr_of command.value) (optional_expr_of place)
-piped_is e command place is = search (rules, the_lemmas)
 
 pub lower-returns-in-Getline : goal.lower-returns-in-Getline
 lower-returns-in-Getline t c = rw (getline_is c.args.e.now c.in-Getline.place c.in-Getline.file c.in-Getline.is) c.lower_getline.ensures
@@ -231,10 +220,6 @@ lower_all-returns t c =
 
 pub lower_arguments-loop-i-init : goal.lower_arguments-loop-i-init
 lower_arguments-loop-i-init t c = (rw (exprs_over c.args.list.now (length c.args.list.now) (omega arith)) (no_arguments _ c.requires), c.requires)
-
--- the functions stay
-same_arrays : {kinds : ProgramKinds} {parameters : List FormalParameter} {a b : Builder} {place : ℕ} {part : Part} (f : ℕ) → Builds' kinds parameters a b place part → arrays_of b f ≡ arrays_of a f
-same_arrays {a = a} {b = b} f q = ap (λ (l : List (List Bool)). get_or l f []) (arrays_same a b q.extends.grows.functions)
 
 pub lower_arguments-loop-i-preserved-then-not-takes_array : goal.lower_arguments-loop-i-preserved-then-not-takes_array
 lower_arguments-loop-i-preserved-then-not-takes_array t c =
