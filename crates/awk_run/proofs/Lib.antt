@@ -6,6 +6,7 @@ pub mod Passing
 pub mod PlanMeans
 pub mod Closings
 pub mod RunEnds
+pub mod LostOutputs
 pub mod ShortRuns
 pub mod RunsFrom
 pub mod Assigning

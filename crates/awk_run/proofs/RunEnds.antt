@@ -13,7 +13,7 @@ use Rattle.awk_streams.specs.Openings.{Opening, outputs_of, AreBrought, Begins}
 use Rattle.awk_streams.specs.Outputs.{output_fault_of}
 use Rattle.awk_streams.specs.Grows.{Grows}
 use Rattle.awk_streams.specs.WorldState.{WorldState, is_any, first_behind, first_of}
-use Rattle.awk_streams.specs.Streams.{StreamsView, printed_openings, numbered, AreBringing}
+use Rattle.awk_streams.specs.Streams.{StreamsView, held_of, printed_openings, numbered, AreBringing}
 use Rattle.awk_streams.specs.Commands.{Finishes, AreOfTheEnd}
 use Rattle.awk_streams.proofs.GrowsLemmas.{with_events-append, first_stays, first_between}
 use Rattle.awk_streams.proofs.ViewLemmas.{not_marked}
@@ -33,7 +33,7 @@ use Rattle.awk_semantics.specs.support.Unended.{AreUnended}
 use Rattle.awk_semantics.proofs.Requests.{goes_last, meets_append, requests-append}
 use Rattle.awk_runtime.specs.declared.runtime.Runtime.{Runtime}
 use Rattle.awk_runtime.specs.support.Simulation.{main_number, stage_of, StreamsRelation, FailureRelation, FailedLast, ResultRelation, ResultRelationBy}
-use Rattle.awk_runtime.proofs.Composition.{cut_behind}
+use Rattle.awk_runtime.proofs.Composition.{clear_spent, cut_behind}
 use Rattle.awk_runtime.proofs.Effects.{begins-then}
 use Rattle.awk_run.specs.support.Verdict.{outcome_after}
 use Rattle.awk_run.proofs.Closings.{end_prints, before_the_end, bringing_between, ends_met}
@@ -106,7 +106,7 @@ same_outcome o r status e same = ap (λ (x : Result (Unit {0}) Halt). outcome_of
 
 -- the same of a failure, of whose place less is said
 failed_as : {A B : Type 0} {oracle : Oracle} {k : WorldState} {streams : StreamsView} {effects : List Effect} → (A → B) → FailureRelation oracle A streams k effects → FailureRelation oracle B streams k effects
-failed_as less h = record { done = h.done; others = h.others; parts = h.parts; last = h.last; at = h.at; turn = h.turn; kept = h.kept; begins = h.begins; failure = less h.failure }
+failed_as less h = record { done = h.done; others = h.others; parts = h.parts; last = h.last; at = h.at; turn = h.turn; keeps = h.keeps; begins = h.begins; failure = less h.failure }
 
 memory_once : (k : WorldState) → (k.failures ≡ []) ⊎ FailedLast Memory k → FailedAtMostOnce k
 memory_once k (inl none) = inl none
@@ -230,7 +230,7 @@ bounds k1 k2 es log g grows is early (inr last) first =
 
 -- a body that came to what the meaning has is one that did all
 pub body_failed : (oracle : Oracle) (k1 : WorldState) (streams : StreamsView) (ended : Outcome) (o : Out (Unit {0})) → Came oracle k1 streams ended o → FailureRelation oracle (FailedAtMostOnce k1) streams k1 o.effects
-body_failed oracle k1 streams ended o (inl meant) = cut_behind oracle streams k1 o.effects (stage_of k1.log streams) refl meant.stands.turn meant.stands.printed (inl meant.clear)
+body_failed oracle k1 streams ended o (inl meant) = cut_behind oracle streams k1 o.effects (stage_of k1.log streams) refl meant.stands.turn meant.stands.printed (clear_spent k1 (held_of streams) meant.clear) (inl meant.clear)
 body_failed oracle k1 streams ended o (inr cut) = cut.fails
 
 -- a part of what brings bytes

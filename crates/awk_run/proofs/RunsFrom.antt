@@ -6,7 +6,7 @@ use Rattle.awk_streams.specs.Log as log
 use Rattle.awk_streams.specs.Oracle.{Oracle, IsConsistent, standing}
 use Rattle.awk_streams.specs.Orderly.{IsOrderly, IsInOrder}
 use Rattle.awk_streams.specs.Openings.{outputs_of, is_flushed}
-use Rattle.awk_streams.specs.Streams.{StreamsView, AreSound, printed_openings}
+use Rattle.awk_streams.specs.Streams.{StreamsView, AreSound, held_of, printed_openings}
 use Rattle.awk_streams.specs.Commands.{Finishes}
 use Rattle.awk_streams.specs.WorldState.{WorldState}
 use Rattle.awk_grammar.specs.Tree.{Item}
@@ -25,7 +25,7 @@ use Rattle.awk_semantics.specs.support.Unended.{LawOfEnds}
 use Rattle.awk_semantics.proofs.Requests.{goes-self}
 use Rattle.awk_runtime.specs.declared.runtime.Runtime.{Runtime}
 use Rattle.awk_runtime.specs.support.Simulation.{FailureRelation, ResultRelation}
-use Rattle.awk_runtime.proofs.Composition.{cut_off}
+use Rattle.awk_runtime.proofs.Composition.{clear_spent, cut_off}
 use Rattle.awk_run.specs.definitions.Runs.{IsUntouched, IsUndisturbed, Runs, RunsFrom}
 use Rattle.awk_run.specs.support.Assigned.{Begins}
 use Rattle.awk_run.specs.support.Follows.{FollowsPlan}
@@ -33,7 +33,7 @@ use Rattle.awk_run.specs.support.Planned.{IsPlanFor, assign_and_run_at}
 use Rattle.awk_run.specs.support.Verdict.{outcome_after, no_streams, EndsWithoutStreams}
 use Rattle.awk_run.proofs.PlanMeans.{functions_of, whole_same}
 use Rattle.awk_run.proofs.RunEnds.{read_off, IsMeant, FailedAtMostOnce, Came, came, brought, in_turn, not_clear, no_failure_before, halted_by, body_failed, write_blamed, fails_at, begins_at_end}
-use Rattle.awk_run.proofs.ShortRuns.{short_at, cut_at}
+use Rattle.awk_run.proofs.ShortRuns.{short_at, cut_at, silent_at}
 
 -- the law that some oracle is consistent with an orderly log, as the streams give it
 abbrev pub SomeIsConsistent : Type 0
@@ -75,6 +75,7 @@ runs_by items start limit k1 k2 streams last ended f law unended orderly told is
       some = law k2.log orderly;
       orderly = orderly;
       closed = told.closed;
+      silent = let some = law k2.log orderly in silent_at some.0 k1 k2 streams last f (out_by some.0) told (body_failed some.0 k1 streams ended (out_by some.0) (body some.0 some.1));
       outcome = λ calm oracle consistent. (calm_whole oracle k1 k2 streams last ended f (out_by oracle) told is calm (body oracle consistent)).outcome;
       outputs = λ calm oracle consistent. (calm_whole oracle k1 k2 streams last ended f (out_by oracle) told is calm (body oracle consistent)).outputs;
       turn = λ calm oracle consistent. (calm_whole oracle k1 k2 streams last ended f (out_by oracle) told is calm (body oracle consistent)).turn;
@@ -84,7 +85,7 @@ runs_by items start limit k1 k2 streams last ended f law unended orderly told is
         at = λ g some. subst (λ x. FailsAt (λ oracle. read_off (out_by oracle)) g k2.log x) (sym is) (fails_at out_by k1 k2 streams last ended f g told (λ oracle. unended items limit start.pre (start_state items start oracle limit)) (law k2.log orderly) body some);
         blamed = λ write. let some = law k2.log orderly in write_blamed some.0 k1 k2 streams last ended f (out_by some.0) told (body some.0 some.1) (sym is ∙ write);
       };
-      cut = λ none memory oracle consistent. cut_at oracle k1 k2 streams last f (out_by oracle) told (body_failed oracle k1 streams ended (out_by oracle) (body oracle consistent)) none;
+      cut = λ caused oracle consistent. cut_at oracle k1 k2 streams last f (out_by oracle) told (body_failed oracle k1 streams ended (out_by oracle) (body oracle consistent));
     }
 
 -- the body of a run, for each oracle
@@ -124,7 +125,7 @@ none_printed k empty = subst (λ (x : List log.Event). printed_openings (record 
 
 -- and nothing is done
 none_done : (oracle : Oracle) (k : WorldState) (o : Out (Unit {0})) → IsUntouched k → FailureRelation oracle (FailedAtMostOnce k) no_streams k o.effects
-none_done oracle k o fresh = cut_off oracle no_streams k [] o.effects first_stage (sym fresh.log) (goes-self first_stage) (none_printed k fresh.log) (inl fresh.failures)
+none_done oracle k o fresh = cut_off oracle no_streams k [] o.effects first_stage (sym fresh.log) (goes-self first_stage) (none_printed k fresh.log) (clear_spent k (held_of no_streams) fresh.failures) (inl fresh.failures)
 
 -- a run that found no memory before it began, and its end
 pub runs_not : (items : List Item) (start : StartValues) (limit : ℕ) {is_logged : Type 0} {k k2 : WorldState} {f : Result (Unit {0}) StreamFault} → SomeIsConsistent → LawOfEnds → (is_logged → EndsWithoutStreams k f k2) → (is_logged → IsOrderly k2.log) →

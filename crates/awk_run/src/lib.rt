@@ -6,8 +6,8 @@
 //!   often the texts of its records were split and made anew.
 //! - `Patterns` keeps the EREs of a run, `Control` its active calls.
 //! - `execute_watched` does what `execute` does, and tells a `Watch` of the run.
-//! - `one_program`, `law_of_limits`, `law_of_outcomes`, `law_of_turns`, `law_of_untouched`, `law_of_failed_writes`: laws of
-//!   programs and runs.
+//! - `one_program`, `law_of_limits`, `law_of_outcomes`, `law_of_turns`, `law_of_untouched`, `law_of_failed_writes`,
+//!   `law_of_brought_outputs`: laws of programs and runs.
 #![tactic(auto)]
 
 mod items;
@@ -24,7 +24,7 @@ pub use awk_semantics::{
 };
 pub use awk_storage::Control;
 pub use program::{
-    Program, execute, execute_watched, law_of_failed_writes, law_of_untouched, one_program,
-    read_program, run, run_counted,
+    Program, execute, execute_watched, law_of_brought_outputs, law_of_failed_writes,
+    law_of_untouched, one_program, read_program, run, run_counted,
 };
 pub use start::{Assignment, Start};

@@ -4,6 +4,9 @@ ghost use Rattle.std.specs.Prelude.{◌≡◌, ℕ, List, [], IfOk, IfErr, OnErr
 ghost use Rattle.awk_journal.specs.Adds.{Adds};
 ghost use Rattle.awk_lex.specs.Refused.{IsOutOfMemory};
 ghost use Rattle.awk_grammar.specs.Tree.{Item};
+ghost use Rattle.awk_streams.specs.Log.{Event};
+ghost use Rattle.awk_streams.specs.Lost.{AreBroughtBut};
+ghost use Rattle.awk_streams.specs.Openings.{Opening, AreBrought};
 ghost use Rattle.awk_streams.specs.Streams.{AreSound};
 ghost use Rattle.awk_streams.specs.WorldState.{WorldState};
 ghost use Rattle.awk_semantics.specs.Meaning.{StartValues};
@@ -201,4 +204,9 @@ pub fn law_of_untouched()
 pub fn law_of_failed_writes()
     ensures { (items : List Item) (start : StartValues) (limit : ℕ) (world : WorldState) →
         RunsSince (Unit {0}) items start limit world world (ByFault WriteFailed) → ⊥ }
+{}
+
+/// Where no write and no flush failed, no output is left out of what the end of a run brings.
+pub fn law_of_brought_outputs()
+    ensures { (outputs : List Opening) (log : List Event) → AreBroughtBut [] outputs log → AreBrought outputs log }
 {}

@@ -1,13 +1,15 @@
 -- How what the parts of the code do is put together.
-use Rattle.std.proofs.Common.{◌≡◌, ◌⊎◌, inl, inr, ◌≤◌, ℕ, List, [], ◌∷◌, ◌++◌, length, Result, Ok, Err, refl, sym, ap, ◌∙◌, subst, arith, append_assoc, append-nil}
+use Rattle.std.proofs.Common.{◌≡◌, ◌⊎◌, inl, inr, ◌≤◌, ℕ, true, false, List, [], ◌∷◌, ◌++◌, length, slice_get, None, Result, Ok, Err, refl, sym, ap, ◌∙◌, subst, arith, append_assoc, append-nil}
 use Rattle.awk_world.specs.declared.world.InputKind.{InputKind}
 use Rattle.awk_world.specs.declared.world.OutputKind.{OutputKind}
 use Rattle.awk_world.specs.declared.failure.Failure.{Failure}
 use Rattle.awk_world.specs.declared.world.WorldFault.{WorldFault}
 use Rattle.awk_world.specs.declared.world.WorldFault.TheVariants.{Memory}
-use Rattle.awk_streams.specs.WorldState.{WorldState, FailsNow, MayFailNow}
+use Rattle.awk_streams.specs.WorldState.{WorldState, FailsNow, MayFailNow, MayFailInside}
 use Rattle.awk_streams.specs.Oracle.{Oracle}
-use Rattle.awk_streams.specs.Streams.{StreamsView, AreAs, printed_openings}
+use Rattle.awk_streams.specs.Openings.{Opening}
+use Rattle.awk_streams.specs.Streams.{StreamsView, AreAs, held_of, printed_openings}
+use Rattle.awk_streams.specs.Lost.{AreSpent, KeepsOthers}
 use Rattle.awk_streams.proofs.GrowsLemmas.{Grows-self, Grows-then}
 use Rattle.awk_semantics.specs.declared.halt.Halt.{Halt}
 use Rattle.awk_semantics.specs.declared.halt.Halt.TheVariants as halt
@@ -29,27 +31,54 @@ pub may_fail_last : (before after : WorldState) → before.failures ≡ [] → M
 may_fail_last before after clear (inl same) = inl (same ∙ clear)
 may_fail_last before after clear (inr fails) = inr (fails_last before after clear fails)
 
+-- refused memory that was for no output
+pub inside_last : (before after : WorldState) → before.failures ≡ [] → MayFailInside before after → (after.failures ≡ []) ⊎ FailedLast Memory after
+inside_last before after clear (inl same) = inl (same ∙ clear)
+inside_last before after clear (inr fails) = inr (fails_last before after clear (None, fails))
+
+-- where no output failed, none that did holds anything back
+
+none_failed : (held : List (ℕ × List ℕ)) → AreSpent [] held
+none_failed [] = tt
+none_failed (h ∷ held) = (λ (failed : false ≡ true). absurd (cc), none_failed held)
+
+none_failed_inside : (at : ℕ) (held : List (ℕ × List ℕ)) → AreSpent (record { at = at; output = None; what = Memory } ∷ []) held
+none_failed_inside at [] = tt
+none_failed_inside at (h ∷ held) = (λ (failed : false ≡ true). absurd (cc), none_failed_inside at held)
+
+pub clear_spent : (k : WorldState) (held : List (ℕ × List ℕ)) → k.failures ≡ [] → AreSpent k.failures held
+clear_spent k held clear = subst (λ (fs : List Failure). AreSpent fs held) (sym clear) (none_failed held)
+
+pub inside_spent : (before after : WorldState) (held : List (ℕ × List ℕ)) → before.failures ≡ [] → MayFailInside before after → AreSpent after.failures held
+inside_spent before after held clear (inl same) = clear_spent after held (same ∙ clear)
+inside_spent before after held clear (inr fails) =
+    subst (λ (fs : List Failure). AreSpent fs held) (sym (fails ∙ ap (λ (fs : List Failure). record { at = length after.log; output = None; what = Memory } ∷ fs) clear)) (none_failed_inside (length after.log) held)
+
+-- all that is printed is received or held back
+pub keeps_all : (k : WorldState) (streams : StreamsView) (done : List Effect) → printed_openings k streams ≡ outputs_after done → AreSpent k.failures (held_of streams) → KeepsOthers (outputs_after done) k (held_of streams)
+keeps_all k streams done printed spent = record { same = λ n kept. ap (λ (os : List Opening). slice_get os n) printed; spent = spent }
+
 -- a failure behind what was done, which left nothing out
-pub cut_off : {failure : Type 0} (oracle : Oracle) (streams : StreamsView) (k : WorldState) (done others : List Effect) (last : Stage) → last.log ≡ k.log → MeetsAll oracle (requests_from first_outputs done) first_stage last → printed_openings k streams ≡ outputs_after done → failure → FailureRelation oracle failure streams k (done ++ others)
-cut_off oracle streams k done others last at turn printed failed = record {
+pub cut_off : {failure : Type 0} (oracle : Oracle) (streams : StreamsView) (k : WorldState) (done others : List Effect) (last : Stage) → last.log ≡ k.log → MeetsAll oracle (requests_from first_outputs done) first_stage last → printed_openings k streams ≡ outputs_after done → AreSpent k.failures (held_of streams) → failure → FailureRelation oracle failure streams k (done ++ others)
+cut_off oracle streams k done others last at turn printed spent failed = record {
   done = done;
   others = others;
   parts = refl;
   last = last;
   at = at;
   turn = turn;
-  kept = λ none. printed;
+  keeps = keeps_all k streams done printed spent;
   begins = begins_still (printed_openings k streams) done others printed;
   failure = failed;
 }
 
 -- a failure behind all of it
-pub cut_behind : {failure : Type 0} (oracle : Oracle) (streams : StreamsView) (k : WorldState) (done : List Effect) (last : Stage) → last.log ≡ k.log → MeetsAll oracle (requests_from first_outputs done) first_stage last → printed_openings k streams ≡ outputs_after done → failure → FailureRelation oracle failure streams k done
-cut_behind {failure = failure} oracle streams k done last at turn printed failed = subst (λ (l : List Effect). FailureRelation oracle failure streams k l) (append-nil done) (cut_off oracle streams k done [] last at turn printed failed)
+pub cut_behind : {failure : Type 0} (oracle : Oracle) (streams : StreamsView) (k : WorldState) (done : List Effect) (last : Stage) → last.log ≡ k.log → MeetsAll oracle (requests_from first_outputs done) first_stage last → printed_openings k streams ≡ outputs_after done → AreSpent k.failures (held_of streams) → failure → FailureRelation oracle failure streams k done
+cut_behind {failure = failure} oracle streams k done last at turn printed spent failed = subst (λ (l : List Effect). FailureRelation oracle failure streams k l) (append-nil done) (cut_off oracle streams k done [] last at turn printed spent failed)
 
 -- want of memory behind all of it
 pub wanted_behind : {failure : Type 0} (oracle : Oracle) (m : Runtime) (k : WorldState) (s : State) (done : List Effect) → StateRelation oracle m k s done → failure → FailureRelation oracle failure m.streams k done
-wanted_behind oracle m k s done stands failed = cut_behind oracle m.streams k done (stage_of k.log m.streams) refl stands.streams.turn stands.streams.printed failed
+wanted_behind oracle m k s done stands failed = cut_behind oracle m.streams k done (stage_of k.log m.streams) refl stands.streams.turn stands.streams.printed (clear_spent k (held_of m.streams) stands.clear) failed
 
 -- what a failure left still begins with what is printed, and with more
 failure_longer : {oracle : Oracle} {failure : Type 0} {streams : StreamsView} {k : WorldState} (past xs ys : List Effect) → FailureRelation oracle failure streams k (past ++ xs) → FailureRelation oracle failure streams k (past ++ (xs ++ ys))
@@ -60,14 +89,14 @@ failure_longer {streams = streams} {k = k} past xs ys h = record {
   last = h.last;
   at = h.at;
   turn = h.turn;
-  kept = h.kept;
+  keeps = h.keeps;
   begins = begins-longer (printed_openings k streams) past xs ys h.begins;
   failure = h.failure;
 }
 
 -- want of memory where all is as the meaning has it
 pub unfailed : {failure : Type 0} (oracle : Oracle) (m new : Runtime) (k : WorldState) (s : State) (past more : List Effect) → new.streams ≡ m.streams → StateRelation oracle m k s past → ((k.failures ≡ []) → failure) → FailureRelation oracle failure new.streams k (past ++ more)
-unfailed oracle m new k s past more same stands failure = cut_off oracle new.streams k past more (stage_of k.log m.streams) refl stands.streams.turn (ap (printed_openings k) same ∙ stands.streams.printed) (failure stands.clear)
+unfailed oracle m new k s past more same stands failure = cut_off oracle new.streams k past more (stage_of k.log m.streams) refl stands.streams.turn (ap (printed_openings k) same ∙ stands.streams.printed) (clear_spent k (held_of new.streams) stands.clear) (failure stands.clear)
 
 -- what lies outside the code's own part is the same
 pub record OwnPart (s t : State) : Type 0 where

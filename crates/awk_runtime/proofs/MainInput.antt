@@ -14,7 +14,8 @@ use Rattle.awk_streams.specs.Oracle.{Oracle, Source, IsConsistent, one_if, same_
 use Rattle.awk_streams.specs.Orderly.{IsReadable}
 use Rattle.awk_streams.specs.Openings.{Opening}
 use Rattle.awk_streams.specs.Inputs.{Reaches, Rest, NextTold, IsInputFault}
-use Rattle.awk_streams.specs.Streams.{StreamsView, AreOpen, AreSound, IsMainRest, IsSameMain, IsFreshMain, numbered}
+use Rattle.awk_streams.specs.Streams.{StreamsView, AreOpen, AreSound, IsMainRest, IsSameMain, IsFreshMain, numbered, held_of}
+use Rattle.awk_streams.specs.Lost.{AreSpent}
 use Rattle.awk_streams.specs.MainInput.{main_opening, OpensMain, ReadsMain, AsksMain, closed_main, EndsMain}
 use Rattle.awk_streams.proofs.GrowsLemmas.{Grows-self}
 use Rattle.awk_semantics.specs.declared.halt.Halt.TheVariants as halt
@@ -27,7 +28,7 @@ use Rattle.awk_kinds.specs.declared.special.Special.TheVariants.{Rs}
 use Rattle.awk_kinds.specs.Variables.{value_of, name_of}
 use Rattle.awk_runtime.specs.declared.runtime.Runtime.{Runtime}
 use Rattle.awk_runtime.specs.support.Simulation.{OwnRelation, main_number, stage_of, StreamsRelation, StateRelation, FailureRelation, ResultRelation, SimulatesLogged, Simulates, IsReady, Follows, Beside, halted}
-use Rattle.awk_runtime.proofs.Composition.{may_fail_last, cut_off, cut_behind}
+use Rattle.awk_runtime.proofs.Composition.{inside_last, inside_spent, cut_off, cut_behind}
 use Rattle.awk_runtime.proofs.Effects.{turn_between, turn_requested}
 use Rattle.awk_runtime.proofs.Steps.{beside_holds}
 use Rattle.awk_runtime.proofs.Turns.{own_at, outputs_requested, stage_same}
@@ -123,7 +124,7 @@ opens_logged kind path (Err InputNotReadable) {old = old} {new = new} {before = 
 opens_logged kind path (Err Memory) {old = old} {new = new} {before = before} {after = after} beside none same told fault = record {
   grows = told.grows;
   means = λ oracle s past consistent stands.
-      cut_off oracle new.streams after past (open_main kind path s).effects (stage_of before.log old.streams) (sym told.adds) stands.streams.turn (told.printed ∙ stands.streams.printed) (may_fail_last before after stands.clear told.failure);
+      cut_off oracle new.streams after past (open_main kind path s).effects (stage_of before.log old.streams) (sym told.adds) stands.streams.turn (told.printed ∙ stands.streams.printed) (inside_spent before after (held_of new.streams) stands.clear told.failure) (inside_last before after stands.clear told.failure);
 }
 opens_logged kind path (Err WriteFailed) beside none same told fault = absurd (elim fault [ inl e ↦ (cc) | inr e ↦ (cc) ])
 opens_logged kind path (Err OutputNotOpened) beside none same told fault = absurd (elim fault [ inl e ↦ (cc) | inr e ↦ (cc) ])
@@ -274,15 +275,15 @@ take_asks separator m s whole rs h is =
 
 -- a failure behind what was read for it
 asks_cut : {failure : Type 0} (separator : List ℕ) (r : Result (Option (List ℕ)) StreamFault) (oracle : Oracle) (old new : Runtime) {before after : WorldState} (s : State) (past : List Effect) (whole : Source) → separator ≡ str_of (value_of old.specials (name_of Rs)) → IsSameMain old.streams.main new.streams.main
-    → AsksMain separator before old.streams r after new.streams → StateRelation oracle old before s past → s.main ≡ Some whole → failure → FailureRelation oracle failure new.streams after (past ++ (take_record s).effects)
-asks_cut {failure = failure} separator r oracle old new {before = before} {after = after} s past whole rs same_main told stands is failed =
+    → AsksMain separator before old.streams r after new.streams → StateRelation oracle old before s past → s.main ≡ Some whole → AreSpent after.failures (held_of new.streams) → failure → FailureRelation oracle failure new.streams after (past ++ (take_record s).effects)
+asks_cut {failure = failure} separator r oracle old new {before = before} {after = after} s past whole rs same_main told stands is spent failed =
     let what : Request = RecordOfMain separator whole.bytes in
     let rest = subst (λ (o : Option Source). IsMainRest oracle before.log old.streams.main o) is stands.streams.are.main in
     let meets = asking_meets oracle separator (outputs_after past) before after old.streams new.streams whole same_main told.same rest told.request in
     subst (λ (l : List Effect). FailureRelation oracle failure new.streams after (past ++ l)) (sym (take_asks separator old s whole rs stands.holds is))
     (cut_behind oracle new.streams after (past ++ Requested what ∷ []) (stage_of after.log new.streams) refl
     (turn_requested oracle past what first_stage (stage_of before.log old.streams) (stage_of after.log new.streams) stands.streams.turn meets)
-    (told.printed ∙ (stands.streams.printed ∙ sym (outputs_requested past what))) failed)
+    (told.printed ∙ (stands.streams.printed ∙ sym (outputs_requested past what))) spent failed)
 
 asks_by : (separator : List ℕ) (r : Result (Option (List ℕ)) StreamFault) {old new : Runtime} {before after : WorldState} → separator ≡ str_of (value_of old.specials (name_of Rs)) → Beside old new → is_some old.streams.main ≡ true → IsSameMain old.streams.main new.streams.main
     → AsksMain separator before old.streams r after new.streams → (r ≡ Err WriteFailed → ⊥)
@@ -292,7 +293,7 @@ asks_by separator (Err Memory) {old = old} {new = new} {before = before} {after 
   grows = told.grows;
   means = λ oracle s past consistent stands.
       let whole = some_rest oracle before.log old.streams.main s.main there stands.streams.are.main in
-      asks_cut separator (Err Memory) oracle old new s past whole.0 rs same_main told stands whole.1 (may_fail_last before after stands.clear told.failure);
+      asks_cut separator (Err Memory) oracle old new s past whole.0 rs same_main told stands whole.1 (inside_spent before after (held_of new.streams) stands.clear told.failure) (inside_last before after stands.clear told.failure);
 }
 asks_by separator (Err WriteFailed) rs beside there same_main told unwritten = absurd (unwritten refl)
 asks_by separator (Err InputNotReadable) rs beside there same_main told unwritten = asks_logged separator (Err InputNotReadable) rs beside there same_main (λ (e : Err InputNotReadable ≡ Err Memory). absurd (cc)) told.failure told

@@ -10,6 +10,7 @@ use Rattle.awk_world.specs.declared.world.InputKind.TheVariants as input
 use Rattle.awk_streams.specs.declared.fault.StreamFault.{StreamFault}
 use Rattle.awk_streams.specs.declared.fault.StreamFault.TheVariants.{Memory, WriteFailed, InputNotReadable, OutputNotOpened, TooManyStreams, RecordTooLong}
 use Rattle.awk_streams.specs.declared.input.NextNamed.{NextNamed}
+use Rattle.awk_streams.specs.declared.input.NextNamed.TheVariants as next
 use Rattle.awk_streams.specs.declared.named.NamedStream.{NamedStream}
 use Rattle.awk_streams.specs.declared.named.NamedStream.TheVariants as named
 use Rattle.awk_streams.specs.WorldState.{WorldState}
@@ -19,7 +20,8 @@ use Rattle.awk_streams.specs.Openings.{Opening}
 use Rattle.awk_streams.specs.Grows.{Grows}
 use Rattle.awk_streams.specs.Named as words
 use Rattle.awk_streams.specs.MainInput.{input_answer}
-use Rattle.awk_streams.specs.Streams.{StreamsView, StandFor, HaveOtherNames, AreOnce, IsMainRest, most_streams, numbered, BringsIf}
+use Rattle.awk_streams.specs.Streams.{StreamsView, StandFor, HaveOtherNames, AreOnce, IsMainRest, most_streams, numbered, held_of, BringsIf}
+use Rattle.awk_streams.specs.Lost.{AreSpent}
 use Rattle.awk_streams.specs.NamedInputs.{FindsInput, IsFullOfInputs, GrantsInput, RefusesInput, OpensInput, NamedTold, IsNamedRest, IsNamedAnswer, AsksNamed, AsksIfOpen, AsksInput}
 use Rattle.awk_streams.proofs.GrowsLemmas.{Grows-self}
 use Rattle.awk_streams.proofs.NamesLemmas.{input_swap}
@@ -36,7 +38,7 @@ use Rattle.awk_kinds.specs.Variables.{value_of, name_of}
 use Rattle.awk_runtime.specs.declared.runtime.Runtime.{Runtime}
 use Rattle.awk_runtime.specs.support.Simulation.{OwnRelation, main_number, stage_of, StreamsRelation, StateRelation, FailureRelation, ResultRelation, SimulatesLogged, Follows, IsReady, Beside, halted}
 use Rattle.awk_runtime.specs.support.NamedInputs.{answers_of}
-use Rattle.awk_runtime.proofs.Composition.{fails_last, may_fail_last, cut_behind, then_logged, ends_logged}
+use Rattle.awk_runtime.proofs.Composition.{inside_last, inside_spent, cut_behind, then_logged, ends_logged}
 use Rattle.awk_runtime.proofs.Effects.{turn_requested}
 use Rattle.awk_runtime.proofs.Steps.{beside_holds}
 use Rattle.awk_runtime.proofs.Turns.{own_at, outputs_requested, goes_bringing_if, turn_brought, brought_as, memory_loses, write_loses, as_many, stage_same, stands_same}
@@ -305,25 +307,32 @@ named_asks kind name separator m s whole rs h is =
 
 -- a failure behind what was read for it
 named_cut : {failure : Type 0} (kind : InputKind) (name separator : List ℕ) (r : Result NextNamed StreamFault) (oracle : Oracle) (old new : Runtime) {before after : WorldState} (s : State) (past : List Effect) → separator ≡ str_of (value_of old.specials (name_of Rs))
-    → AsksNamed kind name separator before old.streams r after new.streams → StateRelation oracle old before s past → failure → FailureRelation oracle failure new.streams after (past ++ (take_named kind name s).effects)
-named_cut {failure = failure} kind name separator r oracle old new {before = before} {after = after} s past rs told stands failed =
+    → AsksNamed kind name separator before old.streams r after new.streams → StateRelation oracle old before s past → AreSpent after.failures (held_of new.streams) → failure → FailureRelation oracle failure new.streams after (past ++ (take_named kind name s).effects)
+named_cut {failure = failure} kind name separator r oracle old new {before = before} {after = after} s past rs told stands spent failed =
     let x = told.asked oracle s.streams stands.streams.are.named in
     let what : Request = RecordOf kind name separator x.whole.bytes in
     subst (λ (l : List Effect). FailureRelation oracle failure new.streams after (past ++ l)) (sym (named_asks kind name separator old s x.whole rs stands.holds x.is))
     (cut_behind oracle new.streams after (past ++ Requested what ∷ []) (stage_of after.log new.streams) refl
     (turn_requested oracle past what first_stage (stage_of before.log old.streams) (stage_of after.log new.streams) stands.streams.turn (named_meets oracle kind name separator r (outputs_after past) s.streams before after old.streams new.streams told x))
-    (told.printed ∙ (stands.streams.printed ∙ sym (outputs_requested past what))) failed)
+    (told.printed ∙ (stands.streams.printed ∙ sym (outputs_requested past what))) spent failed)
+
+-- asking writes nothing
+never_written : (c : Cut) (whole left : List ℕ) → NamedTold c (Err WriteFailed) whole left → ⊥
+never_written (Found first rest) whole left told = let e : Err WriteFailed ≡ Ok (next.Record first) = told.0 in absurd (cc)
+never_written NoMore whole left told = let e : Err WriteFailed ≡ Ok next.End = told.0 in absurd (cc)
+never_written BrokenOff whole left told = let e : Err WriteFailed ≡ Ok next.NotReadable = told.0 in absurd (cc)
+never_written TooLong whole left told = let e : Err WriteFailed ≡ Err RecordTooLong = told.0 in absurd (cc)
 
 named_by : (kind : InputKind) (name separator : List ℕ) (r : Result NextNamed StreamFault) {old new : Runtime} {before after : WorldState} → separator ≡ str_of (value_of old.specials (name_of Rs)) → Beside old new → AreOnce new.streams.named
     → AsksNamed kind name separator before old.streams r after new.streams → SimulatesLogged old before new after (answers_of (halted r)) (take_named kind name)
 named_by kind name separator (Ok x) rs beside once told = named_logged kind name separator (Ok x) rs beside once (λ (e : Ok x ≡ Err Memory). absurd (cc)) told.failure told
 named_by kind name separator (Err Memory) {old = old} {new = new} {before = before} {after = after} rs beside once told = record {
   grows = told.grows;
-  means = λ oracle s past consistent stands. named_cut kind name separator (Err Memory) oracle old new s past rs told stands (may_fail_last before after stands.clear told.failure);
+  means = λ oracle s past consistent stands. named_cut kind name separator (Err Memory) oracle old new s past rs told stands (inside_spent before after (held_of new.streams) stands.clear told.failure) (inside_last before after stands.clear told.failure);
 }
-named_by kind name separator (Err WriteFailed) {old = old} {new = new} {before = before} {after = after} rs beside once told = record {
+named_by kind name separator (Err WriteFailed) rs beside once told = record {
   grows = told.grows;
-  means = λ oracle s past consistent stands. named_cut kind name separator (Err WriteFailed) oracle old new s past rs told stands (fails_last before after stands.clear told.failure);
+  means = λ oracle s past consistent stands. let x = told.answered (λ (e : Err WriteFailed ≡ Err Memory). absurd (cc)) oracle s.main s.streams consistent stands.streams.are in absurd (never_written (cut_of separator x.whole.bytes x.whole.ending) x.whole.bytes x.left x.told);
 }
 named_by kind name separator (Err InputNotReadable) rs beside once told = named_logged kind name separator (Err InputNotReadable) rs beside once (λ (e : Err InputNotReadable ≡ Err Memory). absurd (cc)) told.failure told
 named_by kind name separator (Err OutputNotOpened) rs beside once told = named_logged kind name separator (Err OutputNotOpened) rs beside once (λ (e : Err OutputNotOpened ≡ Err Memory). absurd (cc)) told.failure told

@@ -16,7 +16,6 @@ use Rattle.awk_streams.specs.Openings.{Opening, Begins}
 use Rattle.awk_streams.specs.Outputs.{IsOutputFault}
 use Rattle.awk_streams.specs.Streams.{StreamsView, AreOpen, AreSound, printed_openings, opening_at}
 use Rattle.awk_streams.specs.NamedOutputs.{Prints}
-use Rattle.awk_streams.proofs.ViewLemmas.{not_marked}
 use Rattle.awk_semantics.specs.declared.halt.Halt.{Halt}
 use Rattle.awk_semantics.specs.declared.halt.Halt.TheVariants as halt
 use Rattle.awk_semantics.specs.declared.fault.Fault.TheVariants as faults
@@ -38,7 +37,7 @@ use Rattle.awk_runtime.specs.support.Printing.{PrintsTo, OpensTarget, print_at, 
 use Rattle.awk_runtime.proofs.Composition.{fails_last, may_fail_last, then_logged, ends_logged, lift_logged, memory_changes}
 use Rattle.awk_runtime.proofs.Effects.{turn_between}
 use Rattle.awk_runtime.proofs.Steps.{beside_holds, reads_changes}
-use Rattle.awk_runtime.proofs.Turns.{same_logged, length-with_bytes, outputs_printed}
+use Rattle.awk_runtime.proofs.Turns.{same_logged, length-with_bytes, outputs_printed, spared}
 
 -- what is written to an output meets no request
 
@@ -96,7 +95,7 @@ print_fails to bytes fault old new {before = before} {after = after} told failed
   last = stage_of after.log new.streams;
   at = refl;
   turn = goes_last oracle (requests_from first_outputs past) first_stage (stage_of before.log old.streams) (stage_of after.log new.streams) stands.streams.turn (writes_go to bytes before after old.streams new.streams (Err fault) told);
-  kept = λ none. absurd (not_marked after.failures told.marked none);
+  keeps = spared oracle old new before after s past stands told.spares;
   begins = subst (λ (os : List Opening). Begins (printed_openings after new.streams) os) (as_printed oracle old.streams before s past told.opening bytes stands.streams) told.partly;
   failure = failed;
 }

@@ -1,5 +1,5 @@
 -- Requests that are met where outputs were brought before, and what failures leave of the outputs.
-use Rattle.std.proofs.Common.{◌≡◌, ℕ, zero, suc, Bool, true, false, List, [], ◌∷◌, ◌++◌, length, Option, Result, Err, refl, sym, ap, ◌∙◌, subst, append-nil}
+use Rattle.std.proofs.Common.{◌≡◌, ℕ, zero, suc, Bool, true, false, List, [], ◌∷◌, ◌++◌, length, slice_get, Option, Result, Err, refl, sym, ap, ◌∙◌, subst, append-nil}
 use Rattle.std.specs.Global.{Vec}
 use Rattle.awk_world.specs.declared.world.InputKind.{InputKind}
 use Rattle.awk_world.specs.declared.world.OutputKind.{OutputKind}
@@ -12,7 +12,8 @@ use Rattle.awk_streams.specs.Writes.{GoesOn}
 use Rattle.awk_streams.specs.Openings.{Opening, AreBrought}
 use Rattle.awk_streams.specs.Grows.{Grows}
 use Rattle.awk_streams.specs.Named as words
-use Rattle.awk_streams.specs.Streams.{StreamsView, StandFor, printed_openings, AreBringing, BringsIf}
+use Rattle.awk_streams.specs.Streams.{StreamsView, StandFor, held_of, printed_openings, AreBringing, BringsIf}
+use Rattle.awk_streams.specs.Lost.{KeepsOthers, Spares}
 use Rattle.awk_streams.specs.NamedOutputs.{LosesBytes}
 use Rattle.awk_functions.specs.declared.formats.Formats.{Formats}
 use Rattle.awk_semantics.specs.declared.halt.Halt.{Halt}
@@ -24,7 +25,7 @@ use Rattle.awk_semantics.specs.Order.{Stage, AreBetween, GoesBetween, Meets, Mee
 use Rattle.awk_semantics.proofs.Requests.{goes-self, goes_last, meets_append, requests-append}
 use Rattle.awk_runtime.specs.declared.runtime.Runtime.{Runtime}
 use Rattle.awk_runtime.specs.support.Simulation.{OwnRelation, main_number, stage_of, StreamsRelation, StateRelation, FailureRelation, ResultRelation, SimulatesLogged, Beside}
-use Rattle.awk_runtime.proofs.Composition.{fails_last, may_fail_last}
+use Rattle.awk_runtime.proofs.Composition.{fails_last, may_fail_last, clear_spent}
 use Rattle.awk_runtime.proofs.Effects.{outputs-append, begins-then, begins_still}
 use Rattle.awk_runtime.proofs.Steps.{beside_holds}
 
@@ -104,6 +105,13 @@ brought_as oracle streams before s past log stands h = subst (λ (os : List Open
 
 -- what could not be brought is lost
 
+-- the other outputs are spared
+pub spared : (oracle : Oracle) (old new : Runtime) (before after : WorldState) (s : State) (past : List Effect) → StateRelation oracle old before s past → Spares before (held_of old.streams) after (held_of new.streams) → KeepsOthers (outputs_after past) after (held_of new.streams)
+spared oracle old new before after s past stands spares = record {
+  same = λ n kept. spares.same n kept ∙ ap (λ (os : List Opening). slice_get os n) stands.streams.printed;
+  spent = spares.spent (clear_spent before (held_of old.streams) stands.clear);
+}
+
 lost : {failure : Type 0} (oracle : Oracle) (old new : Runtime) (before after : WorldState) (s : State) (past more : List Effect) → LosesBytes before old.streams after new.streams → StateRelation oracle old before s past → failure → FailureRelation oracle failure new.streams after (past ++ more)
 lost oracle old new before after s past more loses stands failed = record {
   done = past;
@@ -112,7 +120,7 @@ lost oracle old new before after s past more loses stands failed = record {
   last = stage_of after.log old.streams;
   at = refl;
   turn = goes_last oracle (requests_from first_outputs past) first_stage (stage_of before.log old.streams) (stage_of after.log old.streams) stands.streams.turn (goes_bringing before.log after.log old.streams loses.only);
-  kept = λ none. loses.kept none ∙ stands.streams.printed;
+  keeps = spared oracle old new before after s past stands loses.spares;
   begins = begins-then (printed_openings after new.streams) (printed_openings before old.streams) (outputs_after (past ++ more)) loses.begins (begins_still (printed_openings before old.streams) past more stands.streams.printed);
   failure = failed;
 }

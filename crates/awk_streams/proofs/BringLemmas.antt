@@ -1,6 +1,6 @@
 -- Bringing what outputs hold back to them, step by step.
-use Rattle.std.proofs.Common.{◌≡◌, ◌≢◌, inl, inr, ℕ, Bool, true, false, List, [], ◌∷◌, ◌++◌, take, length, Option, Some, None, Result, Ok, Err, refl, sym, ◌∙◌, ap, subst, append-nil, append_assoc}
-use Rattle.std.specs.Prelude.{is_some, OnOk, OnErr, ◌||◌}
+use Rattle.std.proofs.Common.{◌≡◌, ◌≢◌, inl, inr, ℕ, Bool, true, false, List, [], ◌∷◌, ◌++◌, take, length, Result, Ok, Err, refl, sym, ◌∙◌, ap, subst, append-nil, append_assoc}
+use Rattle.std.specs.Prelude.{OnOk, OnErr, ◌||◌}
 use Rattle.std.specs.Result.{is_ok, result_and}
 use Rattle.std.proofs.lemmas.Bool.{ne_eqb, cases_eq}
 use Rattle.std.proofs.Math.Seq.{take-length}
@@ -22,6 +22,7 @@ use Rattle.awk_streams.proofs.GrowsLemmas.{Grows-self, Grows-then, still_any, wi
 use Rattle.awk_streams.proofs.KeptLemmas.{quiet_streams, same_counts-self, same_counts-then}
 use Rattle.awk_streams.proofs.OpeningsLemmas.{receives-none, openings-writes, openings-flush}
 use Rattle.awk_streams.proofs.HeldLemmas.{change_brings, change_part}
+use Rattle.awk_streams.proofs.LostLemmas.{spares-self, spares-then, spares_by}
 use Rattle.awk_streams.proofs.LeavesLemmas.{same_at-self, same_at-then, writes_of, of_output_quiet, of_output_bringing, of_output_append, of_output_same, of_output_order, of_output_flushed, flushed_here, flushed_if_events, flushed_if_is, flushed_if_of}
 
 -- beginnings of beginnings
@@ -105,7 +106,7 @@ events_touch among id es before after is writable open' of_output log grows = re
 
 -- a flush of what is held back
 
-pub flush_events : {id : ℕ} {held : List ℕ} {before : WorldState} {result : Result (Unit {0}) StreamFault} {after : WorldState} → WritesAndFlushes id held before result after → List Event
+unfoldable pub flush_events : {id : ℕ} {held : List ℕ} {before : WorldState} {result : Result (Unit {0}) StreamFault} {after : WorldState} → WritesAndFlushes id held before result after → List Event
 flush_events {id = id} {result = result} w = w.writes.events ++ flushed_if_events (is_ok result) id
 
 pub flush_log : {id : ℕ} {held : List ℕ} {before : WorldState} {result : Result (Unit {0}) StreamFault} {after : WorldState} (w : WritesAndFlushes id held before result after) → after.log ≡ with_events (flush_events w) before.log
@@ -128,6 +129,13 @@ pub on_ok : {P Q : Type 0} (r : Result (Unit {0}) StreamFault) → (P → Q) →
 on_ok (Ok u) f p = f p
 on_ok (Err e) f p = tt
 
+flush_printed : {id : ℕ} {held : List ℕ} {hs hs' : List (ℕ × List ℕ)} {before : WorldState} {result : Result (Unit {0}) StreamFault} {after : WorldState} → ChangesHeld id held [] hs hs' → WritesAndFlushes id held before result after →
+    OnOk result (with_held hs' (openings after.log) ≡ with_held hs (openings before.log))
+flush_printed {held = held} {hs' = hs'} {before = before} {result = result} c w =
+    on_ok result (λ (all : w.count ≡ length held).
+    let whole : held ≡ take w.count held ++ [] = sym (append-nil (take w.count held) ∙ (ap (λ n. take n held) all ∙ take-length held)) in
+    ap (with_held hs') (flush_gains w) ∙ change_brings c (take w.count held) (openings before.log) whole) w.all
+
 pub flush_brings : {id : ℕ} {held : List ℕ} {hs hs' : List (ℕ × List ℕ)} {before : WorldState} {result : Result (Unit {0}) StreamFault} {after : WorldState} → ChangesHeld id held [] hs hs' → WritesAndFlushes id held before result after →
     is_output_among id hs ≡ true → IsWritable id before.log → SameOpen before after → BringsHeld before hs result after hs'
 flush_brings {id = id} {held = held} {hs = hs} {hs' = hs'} {before = before} {result = result} {after = after} c w is writable open' =
@@ -135,14 +143,13 @@ flush_brings {id = id} {held = held} {hs = hs} {hs' = hs'} {before = before} {re
     let os = openings before.log in
     record {
       touches = flush_touches (λ j. is_output_among j hs) w is writable open';
-      printed = on_ok result (λ (all : w.count ≡ length held).
-          let whole : held ≡ take w.count held ++ [] = sym (append-nil (take w.count held) ∙ (ap (λ n. take n held) all ∙ take-length held)) in
-          ap (with_held hs') gains ∙ change_brings c (take w.count held) os whole) w.all;
+      printed = flush_printed c w;
       begins =
           let part = change_part c w.count [] os in
           let bytes : take w.count (held ++ []) ≡ take w.count held = ap (take w.count) (append-nil held) in
           let now : with_held hs' (receives id (take w.count (held ++ [])) os) ≡ with_held hs' (openings after.log) = ap (λ b. with_held hs' (receives id b os)) bytes ∙ ap (with_held hs') (sym gains) in
           subst (λ l. Begins (in_order (with_held hs' (openings after.log))) (in_order l)) (receives-none id (with_held hs os)) (subst (λ l. Begins (in_order l) (in_order (receives id [] (with_held hs os)))) now part);
+      spares = spares_by c result (take w.count held) gains (λ j. ((flush_touches (λ j. is_output_among j hs) w is writable open').same j).place) (flush_printed c w) w.no_failure w.fails;
       no_failure = w.no_failure;
       failure = w.failure;
     }
@@ -154,6 +161,7 @@ brings-self world hs u = record {
   touches = touches-self (λ j. is_output_among j hs) world;
   printed = refl;
   begins = begins-self (in_order (with_held hs (openings world.log)));
+  spares = spares-self world hs;
   no_failure = refl;
   failure = tt;
 }
@@ -182,6 +190,7 @@ brings-then {before = before} {mid = mid} {after = after} {hs = hs} {hs1 = hs1} 
   touches = touches-then p.touches (touches_as (λ j other. same j ∙ other) q.touches);
   printed = then_ok (with_held hs (openings before.log)) (with_held hs1 (openings mid.log)) (with_held hs2 (openings after.log)) first second p.printed q.printed;
   begins = begins-then (in_order (with_held hs2 (openings after.log))) (in_order (with_held hs1 (openings mid.log))) (in_order (with_held hs (openings before.log))) q.begins p.begins;
+  spares = spares-then q.touches.grows (λ j. (q.touches.same j).place) p.spares q.spares;
   no_failure = then_no_failure first second before.failures mid.failures after.failures p.no_failure q.no_failure;
   failure = then_failure first second mid.failures after.failures p.failure q.failure (still_any q.touches.grows);
 }

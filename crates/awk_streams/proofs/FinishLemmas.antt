@@ -6,17 +6,18 @@ use Rattle.awk_world.specs.definitions.Oracle.{standing}
 use Rattle.awk_world.specs.definitions.WorldState.{WorldState, is_any, first_of}
 use Rattle.awk_world.specs.definitions.Writes.{with_events, GoesOn}
 use Rattle.awk_world.specs.definitions.Grows.{Grows}
-use Rattle.awk_world.specs.definitions.Openings.{Opening, openings, in_order, outputs_of, AreFlushed, AreBrought, Begins}
+use Rattle.awk_world.specs.definitions.Openings.{Opening, openings, in_order, outputs_of, is_flushed, AreFlushed, AreBrought, Begins}
 use Rattle.awk_streams.specs.declared.fault.StreamFault.{StreamFault}
 use Rattle.awk_streams.specs.declared.input.Input.{Input}
 use Rattle.awk_streams.specs.definitions.Named.{Named}
-use Rattle.awk_streams.specs.definitions.Streams.{StreamsView, held_of, with_held, printed_openings, AreBringing, all_unheld}
+use Rattle.awk_streams.specs.definitions.Streams.{StreamsView, AreOpen, is_output_among, held_of, with_held, printed_openings, AreBringing, all_unheld}
 use Rattle.awk_streams.specs.definitions.MainInput.{EndsMain, closed_main}
 use Rattle.awk_streams.specs.definitions.Commands.{ClosesEach, BringsAll, all_names, AreOfTheEnd, EndsAll, BringsAndCloses, Finishes, BringsEach}
 use Rattle.awk_streams.specs.support.Held.{HoldsNothing}
 use Rattle.awk_streams.specs.support.Brings.{BringsHeld, AreFlushedBut}
 use Rattle.awk_streams.proofs.GrowsLemmas.{Grows-self, Grows-then, with_events-append, first_between, first_stays}
 use Rattle.awk_streams.proofs.ViewLemmas.{brings_all, nothing_held}
+use Rattle.awk_streams.proofs.EndLosses.{others_brought, silent_end}
 use Rattle.awk_streams.proofs.CloseLemmas.{flushed_after}
 use Rattle.awk_streams.proofs.ClosesLemmas.{each_grows, each_no_failure, but_held_all_names}
 use Rattle.awk_world.specs.declared.failure.Failure.{Failure}
@@ -156,14 +157,14 @@ each_blames [] result before after (is, same) none f some = subst (λ r. Blames 
 each_blames (h ∷ hs) result before after (first, rest, world, is, here, later) none f some =
     subst (λ r. Blames r f) (sym is) (first_blames h.0 h.1 first rest before world after here (each_goes_on hs rest world after later) none f some (λ clear. each_blames hs rest world after later clear f some))
 
-pub finishes : (before mid later after : WorldState) (old s v new : StreamsView) (result : Result (Unit {0}) StreamFault) (answer : ℤ) → BringsAndCloses before old result after → BringsHeld before (held_of old) result mid (held_of s) → s.main ≡ old.main → all_unheld s.named ≡ all_unheld old.named → HoldsNothing s → OnOk result (AreFlushedBut [] mid.log) →
+pub finishes : (before mid later after : WorldState) (old s v new : StreamsView) (result : Result (Unit {0}) StreamFault) (answer : ℤ) → AreOpen before old → ((id : ℕ) → is_output_among id (held_of old) ≡ false → is_flushed id before.log ≡ true) → BringsAndCloses before old result after → BringsHeld before (held_of old) result mid (held_of s) → s.main ≡ old.main → all_unheld s.named ≡ all_unheld old.named → HoldsNothing s → OnOk result (AreFlushedBut [] mid.log) →
     v ≡ record s { main = None } → EndsMain mid s later v → ClosesEach (all_names v.named) (pos 0) later v answer after new → ((id : ℕ) → standing id after.log ≡ None) → Finishes before old result after new
-finishes before mid later after old s v new result answer each b main same empty flushed is ends closes none =
+finishes before mid later after old s v new result answer open' flushed_before each b main same empty flushed is ends closes none =
     let both = finishes_ends before mid later after old s v new result answer b main same empty flushed is ends closes in
     let later_failure : later.failures ≡ mid.failures = ends.no_failure in
     let last_failure : after.failures ≡ mid.failures = each_no_failure (all_names v.named) (pos 0) answer later after v new closes ∙ later_failure in
-    let received : outputs_of after.log ≡ in_order (with_held (held_of s) (openings mid.log)) =
-    ap in_order (each_openings (all_names v.named) (pos 0) answer later after v new closes ∙ (ap openings ends.adds.1 ∙ (main_openings s.main ends.adds.0 mid.log ∙ sym (nothing_held s (openings mid.log) empty)))) in
+    let same_openings : openings after.log ≡ openings mid.log = each_openings (all_names v.named) (pos 0) answer later after v new closes ∙ (ap openings ends.adds.1 ∙ main_openings s.main ends.adds.0 mid.log) in
+    let received : outputs_of after.log ≡ in_order (with_held (held_of s) (openings mid.log)) = ap in_order (same_openings ∙ sym (nothing_held s (openings mid.log) empty)) in
     let closed : GoesOn AreOfTheEnd mid.log after.log = ends-then (main_only s.main ends.adds.0 mid.log later.log ends.adds.1) (each_only (all_names v.named) (pos 0) answer later after v new closes) in
     record {
       grows = Grows-then b.touches.grows (Grows-then ends.grows (each_grows (all_names v.named) (pos 0) answer later after v new closes));
@@ -179,6 +180,8 @@ finishes before mid later after old s v new result answer each b main same empty
       ends = both.0;
       brought = both.1;
       begins = subst (λ l. Begins l (printed_openings before old)) (sym received) b.begins;
+      others = others_brought before mid after old s result each b.spares flushed_before last_failure same_openings received;
+      silent = silent_end before after old result open' each;
       no_failure = ok_same result before.failures mid.failures after.failures b.no_failure last_failure;
       failure = err_same result mid.failures after.failures b.failure last_failure;
       blames = λ f none some. each_blames (held_of old) result before each.world each.brings none f (sym (ap first_of each.no_failure) ∙ some);

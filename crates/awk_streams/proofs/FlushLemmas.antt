@@ -8,7 +8,7 @@ use Rattle.awk_world.specs.declared.world.OutputKind.{OutputKind}
 use Rattle.awk_world.specs.definitions.Log.{Event, Wrote, Flushed}
 use Rattle.awk_world.specs.definitions.Orderly.{IsWritable}
 use Rattle.awk_world.specs.definitions.Writes.{with_events, GoesOn}
-use Rattle.awk_world.specs.definitions.WorldState.{WorldState, SameOpen, FailsNow}
+use Rattle.awk_world.specs.definitions.WorldState.{WorldState, SameOpen}
 use Rattle.awk_world.specs.definitions.Openings.{is_flushed}
 use Rattle.awk_streams.specs.declared.fault.StreamFault.{StreamFault}
 use Rattle.awk_streams.specs.declared.input.Input.{Input}
@@ -24,7 +24,6 @@ use Rattle.awk_streams.specs.support.Brings.{FlushesNamed, BringsHeld}
 use Rattle.awk_streams.specs.support.Flushing.{BringsSome, BringsSomeTo, is_number_at, emptied_to, emptied_at}
 use Rattle.awk_streams.proofs.GrowsLemmas.{with_events-append}
 use Rattle.awk_streams.proofs.WritingLemmas.{fails_with, fails_with_later}
-use Rattle.awk_streams.proofs.BufferedLemmas.{on_err}
 use Rattle.awk_streams.proofs.LeavesLemmas.{of_output_flushed, flushed_here}
 use Rattle.awk_streams.proofs.BringLemmas.{on_ok, brings-self, brings-then, flush_brings, flush_events, flush_log, flush_of}
 use Rattle.awk_streams.proofs.StreamsLemmas.{but_held_numbered}

@@ -1,6 +1,6 @@
 -- What flushes tell: of all outputs, and of those of a text.
 use Rattle.std.proofs.Common.{◌≡◌, ◌≢◌, ◌<◌, inl, inr, ℕ, zero, suc, Bool, true, false, List, [], ◌∷◌, ◌++◌, length, Option, Some, None, Result, Ok, Err, refl, sym, ◌∙◌, ap, subst, arith}
-use Rattle.std.specs.Prelude.{OnOk, OnErr, IfErr, is_some, slice_get, bytes_eq, ◌==◌, ◌&&◌, ◌||◌, if◌then◌else◌}
+use Rattle.std.specs.Prelude.{OnOk, IfErr, is_some, slice_get, bytes_eq, ◌==◌, ◌&&◌, ◌||◌, if◌then◌else◌}
 use Rattle.std.specs.List.{list_any}
 use Rattle.std.proofs.lemmas.Bool.{cond-true, cond-false, ne_eqb, eq-eqb, eqb-true, cases_eq, cases_Bool}
 use Rattle.std.proofs.lemmas.Option.{same_Some}
@@ -8,7 +8,7 @@ use Rattle.awk_world.specs.declared.world.OutputKind.{OutputKind}
 use Rattle.awk_world.specs.declared.world.OutputKind.TheVariants as output
 use Rattle.awk_world.specs.definitions.Log.{Event}
 use Rattle.awk_world.specs.definitions.Oracle.{Oracle}
-use Rattle.awk_world.specs.definitions.WorldState.{WorldState, FailsNow}
+use Rattle.awk_world.specs.definitions.WorldState.{WorldState}
 use Rattle.awk_world.specs.definitions.Writes.{GoesOn}
 use Rattle.awk_world.specs.definitions.Openings.{Opening, openings, in_order, receives}
 use Rattle.awk_streams.specs.declared.fault.StreamFault.{StreamFault}

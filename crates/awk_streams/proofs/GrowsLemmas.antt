@@ -6,7 +6,7 @@ use Rattle.awk_world.specs.declared.world.WorldFault.TheVariants.{Memory}
 use Rattle.awk_world.specs.definitions.Log.{Event, Noted, Did, DidNot}
 use Rattle.awk_world.specs.definitions.Oracle.{IsConsistent}
 use Rattle.awk_world.specs.definitions.Writes.{with_events}
-use Rattle.awk_world.specs.definitions.WorldState.{WorldState, Logs, FailsNow, MayFailNow, is_any, first_behind, first_of}
+use Rattle.awk_world.specs.definitions.WorldState.{WorldState, Logs, FailsNow, MayFailNow, MayFailInside, is_any, first_behind, first_of}
 use Rattle.awk_world.specs.definitions.Grows.{Grows, AreBetween}
 use Rattle.awk_world.proofs.ConsistencyLemmas.{consistent-before}
 
@@ -85,12 +85,17 @@ Grows-then {w0 = w0} {w1 = w1} {w2 = w2} first then =
 pub fails_later : (what : WorldFault) (before mid after : WorldState) → mid.failures ≡ before.failures → FailsNow what mid after → FailsNow what before after
 fails_later what before mid after same (output, fails) = (output, fails ∙ ap (λ (fs : List Failure). record { at = length after.log; output = output; what = what } ∷ fs) same)
 
-pub may_fail_later : (before mid after : WorldState) → mid.failures ≡ before.failures → MayFailNow mid after → MayFailNow before after
+pub may_fail_later : (before mid after : WorldState) → mid.failures ≡ before.failures → MayFailInside mid after → MayFailInside before after
 may_fail_later before mid after same (inl none) = inl (none ∙ same)
-may_fail_later before mid after same (inr fails) = inr (fails_later Memory before mid after same fails)
+may_fail_later before mid after same (inr fails) = inr (fails ∙ ap (λ (fs : List Failure). record { at = length after.log; output = None; what = Memory } ∷ fs) same)
 
-pub not_failing : (before after : WorldState) → after.failures ≡ before.failures → MayFailNow before after
+pub not_failing : (before after : WorldState) → after.failures ≡ before.failures → MayFailInside before after
 not_failing before after same = inl same
+
+-- which output it was is left unsaid
+pub may_fail_now : (before after : WorldState) → MayFailInside before after → MayFailNow before after
+may_fail_now before after (inl same) = inl same
+may_fail_now before after (inr fails) = inr (None, fails)
 
 -- a failure stays one, and the first one stays the first
 

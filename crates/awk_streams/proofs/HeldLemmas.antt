@@ -43,7 +43,7 @@ drawn : (id : ℕ) (held : List ℕ) (front back : List (ℕ × List ℕ)) (os :
 drawn id held front back os others = with_held-append front ((id, held) ∷ back) os ∙ with_held-receives id held back (with_held front os) others
 
 -- the openings without what this output holds back
-pub others_of : {id : ℕ} {held held' : List ℕ} {hs hs' : List (ℕ × List ℕ)} → ChangesHeld id held held' hs hs' → List (ℕ × Opening) → List (ℕ × Opening)
+unfoldable pub others_of : {id : ℕ} {held held' : List ℕ} {hs hs' : List (ℕ × List ℕ)} → ChangesHeld id held held' hs hs' → List (ℕ × Opening) → List (ℕ × Opening)
 others_of c os = with_held c.back (with_held c.front os)
 
 pub before_change : {id : ℕ} {held held' : List ℕ} {hs hs' : List (ℕ × List ℕ)} (c : ChangesHeld id held held' hs hs') (os : List (ℕ × Opening)) → with_held hs os ≡ receives id held (others_of c os)

@@ -23,7 +23,7 @@ use Rattle.awk_streams.specs.definitions.NamedInputs.{FindsInput, LacksInput, Op
 use Rattle.awk_streams.specs.support.Kept.{SameFor}
 use Rattle.awk_streams.specs.support.Places.{is_named_input}
 use Rattle.awk_streams.specs.support.Asks.{Prepares, AsksForNamed, FindsNoMemory, IsAdded, IsRefused, new_input}
-use Rattle.awk_streams.proofs.GrowsLemmas.{grows_on, Grows-self, Grows-then, may_fail_later}
+use Rattle.awk_streams.proofs.GrowsLemmas.{grows_on, Grows-self, Grows-then, may_fail_later, may_fail_now}
 use Rattle.awk_streams.proofs.StreamsLemmas.{stand_same, but_held_numbered}
 use Rattle.awk_streams.proofs.NamesLemmas.{AllFail, first_found, not_found, input_swap}
 use Rattle.awk_streams.proofs.ViewLemmas.{keeps_stand, keeps_main_rest}
@@ -251,7 +251,7 @@ input_unasked kind name b before mid after old s new u main prepares nothing = r
   main_rest = λ a rest h.
       subst (λ (v : StreamsView). IsMainRest a after.log v.main rest) (sym nothing.same) (subst (λ (l : List Event). IsMainRest a l s.main rest) (sym nothing.log) (keeps_main_rest a before mid old.main s.main rest prepares.touches.same main h));
   opened = finds_nothing b before mid after old s new u prepares nothing;
-  failure = may_fail_later before mid after prepares.failure nothing.failure;
+  failure = may_fail_now before after (may_fail_later before mid after prepares.failure nothing.failure);
 }
 
 pub input_asked : (kind : InputKind) (name : List ℕ) (b : Bool) (before mid after : WorldState) (old s new : StreamsView) (u : Unit {0}) (result : Result Bool StreamFault) → b ≡ words.is_input_command kind → position (is_named_input kind name) old.named ≡ None → length old.named < 200 →

@@ -82,7 +82,7 @@ of_output_flushed id j (e ∷ es) log h differs = absurd h
 pub flushed_here : (id : ℕ) (log : List Event) → is_flushed id (Flushed id ∷ log) ≡ true
 flushed_here id log = cond-true _ _ _ (eq-eqb id id refl)
 
-pub flushed_if_events : (done : Bool) (id : ℕ) → List Event
+unfoldable pub flushed_if_events : (done : Bool) (id : ℕ) → List Event
 flushed_if_events true id = Flushed id ∷ []
 flushed_if_events false id = []
 

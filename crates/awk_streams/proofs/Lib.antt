@@ -36,3 +36,5 @@ pub mod FinishLemmas
 pub mod EmptiedLemmas
 pub mod FlushLemmas
 pub mod FlushedLemmas
+mod LostLemmas
+mod EndLosses

@@ -14,7 +14,7 @@ use Rattle.awk_world.specs.definitions.Log.{Event, DidNot, OpenedInput, Closed}
 use Rattle.awk_world.specs.declared.world.WorldFault.TheVariants.{Memory as WorldMemory}
 use Rattle.awk_world.specs.definitions.Oracle.{Oracle, Source, IsConsistent, SameCounts, AnInput, one_if, how_many, opens_input, closes_command, is_command, standing, new_reading}
 use Rattle.awk_world.specs.definitions.Orderly.{IsInOrder}
-use Rattle.awk_world.specs.definitions.WorldState.{WorldState, Logs, SameOpen, IsFresh, Opens, Closes, MayFailNow}
+use Rattle.awk_world.specs.definitions.WorldState.{WorldState, Logs, SameOpen, IsFresh, Opens, Closes, MayFailInside}
 use Rattle.awk_world.specs.definitions.Writes.{with_events}
 use Rattle.awk_world.specs.definitions.Openings.{openings, in_order, is_flushed}
 use Rattle.awk_streams.specs.declared.fault.StreamFault.{StreamFault}
@@ -22,12 +22,12 @@ use Rattle.awk_streams.specs.declared.fault.StreamFault.TheVariants.{Memory, Wri
 use Rattle.awk_streams.specs.declared.input.Input.{Input}
 use Rattle.awk_streams.specs.declared.named.NamedStream.{NamedStream}
 use Rattle.awk_streams.specs.definitions.Inputs.{IsInputFault}
-use Rattle.awk_streams.specs.definitions.Streams.{StreamsView, number_of, IsOpenMain, AreOpenNamed, AreOthers, IsApartFrom, AreOpen, ClosesMain, held_of, with_held, IsSoundInput, IsSoundMain, is_of_main, AreSound, IsRestOf, StandFor, FailsAs}
+use Rattle.awk_streams.specs.definitions.Streams.{StreamsView, number_of, IsOpenMain, AreOpenNamed, AreOthers, IsApartFrom, AreOpen, ClosesMain, held_of, with_held, IsSoundInput, IsSoundMain, is_of_main, AreSound, IsRestOf, StandFor, FailsInside}
 use Rattle.awk_streams.specs.definitions.MainInput.{OpensMain, AsksMain, EndsMain, closed_main}
 use Rattle.awk_streams.specs.support.Kept.{SameAt, SameFor}
 use Rattle.awk_streams.specs.support.Pulls.{IsToldAs}
 use Rattle.awk_streams.specs.support.Asks.{Takes}
-use Rattle.awk_streams.proofs.GrowsLemmas.{grows_on, logs_grow, fails_now}
+use Rattle.awk_streams.proofs.GrowsLemmas.{grows_on, logs_grow, failed_there}
 use Rattle.awk_streams.proofs.KeptLemmas.{same_counts-self}
 use Rattle.awk_streams.proofs.StreamsLemmas.{sound_same, stand_same, same_for_all, same_for_others}
 use Rattle.awk_streams.proofs.OwnedLemmas.{is_other, closed_main_none}
@@ -154,7 +154,7 @@ open_main_unasked kind name before after s (is, fails) = record {
   granted = tt;
   refused = λ e. let bad : Err Memory ≡ Err InputNotReadable = e in absurd cc;
   named = λ a zs h. subst (λ (l : List Event). StandFor a l s.named zs) (sym is) h;
-  failure = inr (fails_now None WorldMemory before after (is, fails));
+  failure = inr (failed_there None WorldMemory before after (is, fails));
 }
 
 -- the next record
@@ -195,7 +195,7 @@ asked_main_sound separator before after s old new step is open' h same takes =
     }
 
 pub step_failure : {T : Type 0} (before after : WorldState) (step : Result Step BufferFault) (result : Result T StreamFault) → (result ≢ Err Memory → step ≢ Err BufferMemory) → (result ≡ Err Memory → step ≡ Err BufferMemory) → result ≢ Err WriteFailed →
-    (step ≢ Err BufferMemory → after.failures ≡ before.failures) → (step ≡ Err BufferMemory → MayFailNow before after) → FailsAs result before after
+    (step ≢ Err BufferMemory → after.failures ≡ before.failures) → (step ≡ Err BufferMemory → MayFailInside before after) → FailsInside result before after
 step_failure before after step (Ok x) differs is ok same fails = same (differs (λ (e : Ok x ≡ Err Memory). cc))
 step_failure before after step (Err Memory) differs is ok same fails = fails (is refl)
 step_failure before after step (Err WriteFailed) differs is ok same fails = absurd (ok refl)

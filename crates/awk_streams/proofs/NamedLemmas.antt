@@ -8,7 +8,7 @@ use Rattle.awk_world.specs.declared.world.InputKind.{InputKind}
 use Rattle.awk_world.specs.declared.world.OutputKind.{OutputKind}
 use Rattle.awk_world.specs.definitions.Log.{Event}
 use Rattle.awk_world.specs.definitions.Orderly.{IsWritable}
-use Rattle.awk_world.specs.definitions.WorldState.{WorldState, SameOpen, FailsNow}
+use Rattle.awk_world.specs.definitions.WorldState.{WorldState, SameOpen}
 use Rattle.awk_streams.specs.declared.fault.StreamFault.{StreamFault}
 use Rattle.awk_streams.specs.declared.input.Input.{Input}
 use Rattle.awk_streams.specs.declared.output.Output.{Output}

@@ -26,7 +26,7 @@ use Rattle.awk_record.specs.Buffer.{Pending}
 use Rattle.awk_streams.specs.definitions.Streams.{numbered}
 use Rattle.awk_streams.specs.support.Places.{is_named_input, is_named_output}
 use Rattle.awk_streams.proofs.OwnedLemmas.{is_other, of_first, of_last}
-use Rattle.awk_streams.proofs.GrowsLemmas.{Grows-self, logs_grow, fails_now}
+use Rattle.awk_streams.proofs.GrowsLemmas.{Grows-self, logs_grow, failed_there}
 use Rattle.awk_streams.proofs.NamesLemmas.{AllFail}
 use Rattle.awk_streams.proofs.ViewLemmas.{keeps_open}
 use Rattle.awk_streams.proofs.StreamsLemmas.{main_same, sound_same, same_for_all, same_for_others, same_for_main}
@@ -288,7 +288,7 @@ world_finds_none before after old s xs view same open' logs = record {
   log = logs.0;
   same = ap (λ (l : List NamedStream). record s { named = l }) same ∙ view;
   open_as = open';
-  failure = inr (fails_now None WorldMemory before after logs);
+  failure = inr (failed_there None WorldMemory before after logs);
   grows = logs_grow (DidNot None WorldMemory) before after logs;
 }
 

@@ -19,16 +19,17 @@ use Rattle.awk_streams.specs.declared.named.NamedStream.TheVariants as named
 use Rattle.awk_streams.specs.definitions.Named as words
 use Rattle.awk_streams.specs.definitions.Streams.{StreamsView, number_of, name_of, numbered, AreOthers, AreOpen, held_in, held_of, with_held, printed_openings, IsMainRest, StandsFor, StandFor, AreBringing}
 use Rattle.awk_streams.specs.definitions.MainInput.{CountsInput}
+use Rattle.awk_streams.specs.definitions.Lost.{AreSpent}
 use Rattle.awk_streams.specs.definitions.NamedOutputs.{CountsOutput, LosesBytes}
 use Rattle.awk_streams.specs.support.Held.{AreOtherOutputs}
 use Rattle.awk_streams.specs.support.Places.{is_named_input, is_named_output}
 use Rattle.awk_streams.specs.support.Asks.{Prepares, FindsNoMemory, new_output, new_input}
+use Rattle.awk_streams.proofs.LostLemmas.{spares_all, spent_inside}
 use Rattle.awk_streams.proofs.OpeningsLemmas.{receives-none}
 use Rattle.awk_streams.proofs.HeldLemmas.{with_held-append}
 use Rattle.awk_streams.proofs.PlaceLemmas.{length-in_order, length-held}
 use Rattle.awk_streams.proofs.StreamsLemmas.{main_rest_same, stand_same, same_for_all, same_for_others, same_for_main}
 use Rattle.awk_streams.proofs.NamedLemmas.{other_outputs}
-use Rattle.awk_streams.proofs.ViewLemmas.{not_marked}
 use Rattle.awk_streams.proofs.BringLemmas.{begins-self}
 use Rattle.awk_streams.proofs.OpenLemmas.{Grants, LeavesAll, fresh_others, main_other}
 
@@ -166,8 +167,9 @@ pub finds_nothing : (b : Bool) (before mid after : WorldState) (old s new : Stre
 finds_nothing b before mid after old s new u prepares none = record {
   only = subst (λ (l : List Event). GoesOn AreBringing before.log l) (sym none.log) prepares.touches.only;
   begins = subst (λ l. Begins l (printed_openings before old)) (sym (nothing_lost b before mid after old s new u prepares none)) (begins-self (printed_openings before old));
-  kept = λ clear. nothing_lost b before mid after old s new u prepares none;
+  spares = spares_all before after (held_of old) (held_of new) (nothing_lost b before mid after old s new u prepares none)
+      (λ spent. subst (λ (v : StreamsView). AreSpent after.failures (held_of v)) (sym none.same) (spent_inside mid after (held_of s) none.failure (prepares.spares.spent spent)));
 }
 
 pub loses_before : (b : Bool) (before mid : WorldState) (old s : StreamsView) (e : StreamFault) → Prepares b before old (Err e) mid s → LosesBytes before old mid s
-loses_before b before mid old s e prepares = record { only = prepares.touches.only; begins = prepares.begins; kept = λ none. absurd (not_marked mid.failures prepares.marked none) }
+loses_before b before mid old s e prepares = record { only = prepares.touches.only; begins = prepares.begins; spares = prepares.spares }

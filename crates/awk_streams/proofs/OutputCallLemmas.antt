@@ -22,7 +22,7 @@ use Rattle.awk_streams.specs.definitions.Outputs.{IsOutputFault}
 use Rattle.awk_streams.specs.definitions.NamedOutputs.{CountsOutput, FindsOutput, LacksOutput, OpensOutput}
 use Rattle.awk_streams.specs.support.Places.{is_named_output}
 use Rattle.awk_streams.specs.support.Asks.{Prepares, AsksOutput, FindsNoMemory, IsAdded, IsRefused, new_output}
-use Rattle.awk_streams.proofs.GrowsLemmas.{grows_on, Grows-self, Grows-then, may_fail_later}
+use Rattle.awk_streams.proofs.GrowsLemmas.{grows_on, Grows-self, Grows-then, may_fail_later, may_fail_now}
 use Rattle.awk_streams.proofs.PlaceLemmas.{stands_opened}
 use Rattle.awk_streams.proofs.StreamsLemmas.{but_held_numbered}
 use Rattle.awk_streams.proofs.NamesLemmas.{AllFail, first_found, none_found, first_at}
@@ -176,7 +176,7 @@ output_unasked kind name mode b before mid after old s new u main prepares nothi
   main_rest = λ a rest h.
       subst (λ (v : StreamsView). IsMainRest a after.log v.main rest) (sym nothing.same) (subst (λ (l : List Event). IsMainRest a l s.main rest) (sym nothing.log) (keeps_main_rest a before mid old.main s.main rest prepares.touches.same main h));
   opened = finds_nothing b before mid after old s new u prepares nothing;
-  failure = may_fail_later before mid after prepares.failure nothing.failure;
+  failure = may_fail_now before after (may_fail_later before mid after prepares.failure nothing.failure);
 }
 
 pub output_asked : (kind : OutputKind) (name : List ℕ) (mode : Mode) (b : Bool) (before mid after : WorldState) (old s new : StreamsView) (u : Unit {0}) (result : Result Target StreamFault) → b ≡ words.is_output_command kind → position (is_named_output kind name) old.named ≡ None → length old.named < 200 →

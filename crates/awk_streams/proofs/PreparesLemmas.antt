@@ -1,7 +1,7 @@
 -- What goes before the opening of a stream.
 use Rattle.std.proofs.Common.{true, false, [], Result, Ok, Err, refl}
-use Rattle.std.specs.Prelude.{OnOk, OnErr, IfErr}
-use Rattle.awk_world.specs.definitions.WorldState.{WorldState, FailsNow}
+use Rattle.std.specs.Prelude.{OnOk, IfErr}
+use Rattle.awk_world.specs.definitions.WorldState.{WorldState}
 use Rattle.awk_world.specs.definitions.Openings.{openings, in_order}
 use Rattle.awk_streams.specs.declared.fault.StreamFault.{StreamFault}
 use Rattle.awk_streams.specs.definitions.Outputs.{IsOutputFault, FailsWith}
@@ -10,6 +10,7 @@ use Rattle.awk_streams.specs.support.Held.{HoldsNothing}
 use Rattle.awk_streams.specs.support.Brings.{BringsHeld, AreFlushedBut}
 use Rattle.awk_streams.specs.support.Asks.{Prepares}
 use Rattle.awk_streams.proofs.BringLemmas.{touches-self, begins-self}
+use Rattle.awk_streams.proofs.LostLemmas.{spares-self}
 use Rattle.awk_streams.proofs.ViewLemmas.{brings_of, fails_as}
 
 pub prepares_command : (before after : WorldState) (old new : StreamsView) (result : Result (Unit {0}) StreamFault) → BringsHeld before (held_of old) result after (held_of new) → OnOk result (HoldsNothing new) → OnOk result (AreFlushedBut [] after.log) → IfErr result (λ fault. FailsWith fault before after) →
@@ -18,6 +19,7 @@ prepares_command before after old new (Ok u) b empty flushed fails fault = recor
   touches = b.touches;
   printed = b.printed;
   begins = b.begins;
+  spares = b.spares;
   brings = brings_of before after old new u b empty flushed;
   marked = tt;
   failure = b.no_failure;
@@ -26,6 +28,7 @@ prepares_command before after old new (Err e) b empty flushed fails fault = reco
   touches = b.touches;
   printed = tt;
   begins = b.begins;
+  spares = b.spares;
   brings = tt;
   marked = b.failure;
   failure = fails_as before after e fault fails;
@@ -36,6 +39,7 @@ prepares_file world s u = record {
   touches = touches-self (λ j. is_output_among j (held_of s)) world;
   printed = refl;
   begins = begins-self (in_order (with_held (held_of s) (openings world.log)));
+  spares = spares-self world (held_of s);
   brings = refl;
   marked = tt;
   failure = refl;

@@ -10,7 +10,7 @@ use Rattle.awk_streams.specs.declared.output.Output.{Output}
 use Rattle.std.proofs.Math.Seq.{take-length}
 use Rattle.std.proofs.lemmas.List.{take-append-le}
 use Rattle.awk_world.specs.definitions.Orderly.{IsWritable}
-use Rattle.awk_world.specs.definitions.WorldState.{WorldState, SameOpen, FailsNow}
+use Rattle.awk_world.specs.definitions.WorldState.{WorldState, SameOpen}
 use Rattle.awk_world.specs.definitions.Openings.{Opening, openings, in_order, receives, Begins}
 use Rattle.awk_streams.specs.declared.fault.StreamFault.{StreamFault}
 use Rattle.awk_streams.specs.declared.named.NamedStream.{NamedStream}
@@ -20,6 +20,7 @@ use Rattle.awk_streams.specs.declared.streams.Target.TheVariants as target
 use Rattle.awk_streams.specs.definitions.Named.{with_bytes}
 use Rattle.awk_streams.specs.definitions.Outputs.{IsOutputFault, WritesAll, FailsAtOutput}
 use Rattle.awk_streams.specs.definitions.Streams.{StreamsView, AreOpen, AreSound, held_of, with_held, is_output_among, place_of, number_of, number_of_some, place_of_some, number_at, opening_at, IsTarget, FailsAs, unheld, all_unheld}
+use Rattle.awk_streams.specs.definitions.Lost.{Spares}
 use Rattle.awk_streams.specs.definitions.NamedOutputs.{Prints}
 use Rattle.awk_streams.specs.support.Buffered.{PrintsOrHolds}
 use Rattle.awk_streams.specs.support.Held.{ChangesHeld, held_by, is_an_output}
@@ -27,6 +28,7 @@ use Rattle.awk_streams.specs.support.Printing.{PrintsAt}
 use Rattle.awk_streams.specs.support.Brings.{Touches}
 use Rattle.awk_streams.proofs.OpeningsLemmas.{openings-writes}
 use Rattle.awk_streams.proofs.HeldLemmas.{change_prints, change_part}
+use Rattle.awk_streams.proofs.LostLemmas.{spares_failing}
 use Rattle.awk_streams.proofs.LeavesLemmas.{writes_of}
 use Rattle.awk_streams.proofs.BringLemmas.{events_touch}
 use Rattle.awk_streams.proofs.StreamsLemmas.{but_held_numbered}
@@ -66,6 +68,11 @@ pub print_touches : (id : ℕ) (written : List ℕ) (before after : WorldState) 
 print_touches id written before after hs result is writable open' w =
     events_touch (λ j. is_output_among j hs) id w.writes.events before after is writable open' (writes_of id (take w.count written) w.writes.events w.writes.each) w.writes.log w.grows
 
+prints_spares : {id : ℕ} {held held' : List ℕ} {hs hs' : List (ℕ × List ℕ)} (before after : WorldState) (result : Result (Unit {0}) StreamFault) → ChangesHeld id held held' hs hs' → (part : List ℕ) → openings after.log ≡ receives id part (openings before.log) → ((j : ℕ) → place_of j (openings after.log) ≡ place_of j (openings before.log))
+    → OnErr result (held' ≡ []) → IfErr result (λ fault. FailsAtOutput id fault before after) → OnErr result (Spares before hs after hs')
+prints_spares before after (Ok u) c part gains places empty fails = tt
+prints_spares before after (Err fault) c part gains places empty fails = spares_failing c part fault empty gains places fails
+
 pub prints : (t : Target) (id n : ℕ) (held held' bytes : List ℕ) (before after : WorldState) (old new : StreamsView) (result : Result (Unit {0}) StreamFault) → number_at t old ≡ Some id → opening_at t old before.log ≡ Some n → opening_at t new after.log ≡ Some n →
     place_of id (openings before.log) ≡ Some n → is_output_among id (held_of old) ≡ true → IsWritable id before.log → SameOpen before after → new.main ≡ old.main → all_unheld new.named ≡ all_unheld old.named → ChangesHeld id held held' (held_of old) (held_of new) →
     IfErr result IsOutputFault → PrintsOrHolds id held bytes before result held' after → Prints t bytes before old result after new
@@ -85,6 +92,7 @@ prints t id n held held' bytes before after old new result number opens still pl
       still = still;
       printed = all_of_it result id held bytes held' did.written did.more w.count (held_of old) (held_of new) (openings before.log) (openings after.log) n change place did.parts did.holds w.all gains;
       partly = part_of_it result id held bytes held' did.written did.more w.count (held_of old) (held_of new) (openings before.log) (openings after.log) n change place did.parts did.empty w.within gains;
+      spares = prints_spares before after result change (take w.count did.written) gains (λ j. (touches.same j).place) did.empty w.fails;
       marked = w.failure;
       counts = touches.counts;
       same = keeps_as before after old new touches.same main same;

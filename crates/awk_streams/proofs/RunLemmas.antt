@@ -1,11 +1,11 @@
 -- What a run of a command tells.
 use Rattle.std.proofs.Common.{◌≡◌, ◌+◌, inl, inr, ℕ, ℤ, List, [], ◌∷◌, None, Result, Ok, Err, refl, sym, ◌∙◌, ap, subst, arith}
-use Rattle.std.specs.Prelude.{OnErr, IfErr}
+use Rattle.std.specs.Prelude.{IfErr}
 use Rattle.awk_world.specs.declared.world.WorldFault.{WorldFault}
 use Rattle.awk_world.specs.declared.world.WorldFault.TheVariants.{Memory as WorldMemory, Failed}
 use Rattle.awk_world.specs.definitions.Log.{Event, DidNot, Ran, running}
 use Rattle.awk_world.specs.definitions.Writes.{GoesOn}
-use Rattle.awk_world.specs.definitions.WorldState.{WorldState, Logs, SameOpen, FailsNow}
+use Rattle.awk_world.specs.definitions.WorldState.{WorldState, Logs, SameOpen}
 use Rattle.awk_world.specs.definitions.Openings.{openings, in_order, Begins}
 use Rattle.awk_streams.specs.declared.fault.StreamFault.{StreamFault}
 use Rattle.awk_streams.specs.declared.fault.StreamFault.TheVariants as fault
@@ -14,7 +14,8 @@ use Rattle.awk_streams.specs.definitions.Streams.{StreamsView, AreSound, held_of
 use Rattle.awk_streams.specs.definitions.Commands.{BringsAll, RunsCommand}
 use Rattle.awk_streams.specs.support.Brings.{BringsHeld}
 use Rattle.awk_streams.specs.support.Closes.{run_answer_of}
-use Rattle.awk_streams.proofs.GrowsLemmas.{grows_on, logs_grow, Grows-then, fails_now, fails_later}
+use Rattle.awk_streams.proofs.LostLemmas.{spares_all, spent_inside}
+use Rattle.awk_streams.proofs.GrowsLemmas.{failed_there, grows_on, logs_grow, Grows-then, fails_now, fails_later}
 use Rattle.awk_streams.proofs.BringLemmas.{begins-self}
 use Rattle.awk_streams.proofs.ViewLemmas.{keeps_as, loses_bytes}
 use Rattle.awk_streams.proofs.OpenLemmas.{LeavesAll, left_sound, same_sound}
@@ -62,7 +63,7 @@ ran_unasked command before mid after old s all (is, fails) = record {
     begins =
         let same : printed_openings after s ≡ printed_openings before old = ap (λ l. in_order (with_held (held_of s) (openings l))) is ∙ all.printed in
         subst (λ l. Begins l (printed_openings before old)) (sym same) (begins-self (printed_openings before old));
-    kept = λ none. ap (λ l. in_order (with_held (held_of s) (openings l))) is ∙ all.printed;
+    spares = spares_all before after (held_of old) (held_of s) (ap (λ l. in_order (with_held (held_of s) (openings l))) is ∙ all.printed) (λ spent. spent_inside mid after (held_of s) (inr (failed_there None WorldMemory mid after (is, fails))) (all.spares.spent spent));
   };
   failure = inr (fails_later WorldMemory before mid after all.no_failure (fails_now None WorldMemory mid after (is, fails)));
 }

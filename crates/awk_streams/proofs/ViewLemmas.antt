@@ -1,10 +1,10 @@
 -- The streams as one value, where bytes were brought to outputs.
 use Rattle.std.proofs.Common.{◌≡◌, ◌≤◌, ◌<◌, inl, inr, ℕ, Bool, true, false, List, [], ◌∷◌, Option, Some, None, Result, Ok, Err, refl, sym, ◌∙◌, ap, subst, arith}
-use Rattle.std.specs.Prelude.{OnOk, is_some, ◌==◌, ◌||◌}
+use Rattle.std.specs.Prelude.{OnOk, slice_get, ◌==◌, ◌||◌}
 use Rattle.std.specs.Result.{result_and}
 use Rattle.awk_world.specs.definitions.Log.{Event}
 use Rattle.awk_world.specs.definitions.Oracle.{Oracle, Source}
-use Rattle.awk_world.specs.definitions.WorldState.{WorldState, SameOpen, FailsNow, is_any}
+use Rattle.awk_world.specs.definitions.WorldState.{WorldState, SameOpen, is_any}
 use Rattle.awk_world.specs.definitions.Openings.{Opening, openings, in_order, receives, AreFlushed, Begins}
 use Rattle.awk_streams.specs.declared.fault.StreamFault.{StreamFault}
 use Rattle.awk_streams.specs.declared.input.Input.{Input}
@@ -16,6 +16,7 @@ use Rattle.awk_streams.specs.definitions.Streams.{StreamsView, numbered, IsOpenM
 use Rattle.awk_streams.specs.definitions.NamedOutputs.{LosesBytes}
 use Rattle.awk_streams.specs.definitions.Commands.{BringsAll}
 use Rattle.awk_streams.specs.definitions.Outputs.{WritesAndFlushes}
+use Rattle.awk_streams.specs.definitions.Lost.{AreSpent, Spares}
 use Rattle.awk_streams.specs.support.Kept.{SameAt}
 use Rattle.awk_streams.specs.support.Held.{ChangesHeld, AreEmpty, HoldsNothing}
 use Rattle.awk_streams.specs.support.Brings.{Touches, BringsHeld, BringsTo, AreFlushedBut}
@@ -123,6 +124,15 @@ either_false : (x y : Bool) → (x || y) ≡ false → y ≡ false
 either_false true y e = absurd cc
 either_false false y e = e
 
+spares_named : (before after : WorldState) (hs hs' all all' : List (ℕ × List ℕ)) → all ≡ (0, []) ∷ (1, []) ∷ hs → all' ≡ (0, []) ∷ (1, []) ∷ hs' → with_held all (openings before.log) ≡ with_held hs (openings before.log) → with_held all' (openings after.log) ≡ with_held hs' (openings after.log)
+    → Spares before hs after hs' → Spares before all after all'
+spares_named before after hs hs' all all' old_is new_is old_held new_held p = record {
+  same = λ n kept. ap (λ l. slice_get (in_order l) n) new_held ∙ (p.same n kept ∙ ap (λ l. slice_get (in_order l) n) (sym old_held));
+  spent = λ spent.
+      let old : AreSpent before.failures ((0, []) ∷ (1, []) ∷ hs) = subst (λ l. AreSpent before.failures l) old_is spent in
+      subst (λ l. AreSpent after.failures l) (sym new_is) ((λ failed. refl), ((λ failed. refl), p.spent old.1.1));
+}
+
 pub brings_named : (before after : WorldState) (s : StreamsView) (ys : List NamedStream) (result : Result (Unit {0}) StreamFault) → s.output ≡ [] → s.error ≡ [] → BringsHeld before (held_in s.named) result after (held_in ys) →
     BringsHeld before (held_of s) result after (held_of record s { named = ys })
 brings_named before after s ys result none_out none_err b =
@@ -134,6 +144,7 @@ brings_named before after s ys result none_out none_err b =
       touches = touches_as (λ j other. either_false (1 == j) (is_output_among j (held_in s.named)) (either_false (0 == j) (1 == j || is_output_among j (held_in s.named)) other)) b.touches;
       printed = on_ok result (λ (e : with_held (held_in ys) (openings after.log) ≡ with_held (held_in s.named) (openings before.log)). new_held ∙ (e ∙ sym old_held)) b.printed;
       begins = subst (λ l. Begins (in_order l) (in_order (with_held (held_of s) (openings before.log)))) (sym new_held) (subst (λ l. Begins (in_order (with_held (held_in ys) (openings after.log))) (in_order l)) (sym old_held) b.begins);
+      spares = spares_named before after (held_in s.named) (held_in ys) (held_of s) (held_of record s { named = ys }) old_is new_is old_held new_held b.spares;
       no_failure = b.no_failure;
       failure = b.failure;
     }
@@ -169,6 +180,7 @@ brings_all before after old new u main same b empty flushed = record {
   main = main;
   numbers = but_held_numbered old.named new.named same;
   printed = ap in_order b.printed;
+  spares = b.spares;
   counts = b.touches.counts;
   same = keeps_as before after old new b.touches.same main same;
   no_failure = b.no_failure;
@@ -180,8 +192,7 @@ not_marked [] marked none = absurd cc
 not_marked (f ∷ failures) marked none = absurd cc
 
 pub loses_bytes : (before after : WorldState) (old new : StreamsView) (result : Result (Unit {0}) StreamFault) → BringsHeld before (held_of old) result after (held_of new) → LosesBytes before old after new
-loses_bytes before after old new (Ok u) b = record { only = b.touches.only; begins = b.begins; kept = λ none. ap in_order b.printed }
-loses_bytes before after old new (Err e) b = record { only = b.touches.only; begins = b.begins; kept = λ none. absurd (not_marked after.failures b.failure none) }
+loses_bytes before after old new result b = record { only = b.touches.only; begins = b.begins; spares = b.spares }
 
 pub fails_as : (before after : WorldState) (e : StreamFault) → IsOutputFault e → FailsWith e before after → FailsBy e before after
 fails_as before after e fault (WorldMemory, is, fails) = subst (λ (f : StreamFault). FailsBy f before after) (sym is) (inr fails)

@@ -2,6 +2,7 @@ pub mod Outputs
 pub mod Inputs
 pub mod Named
 pub mod Streams
+pub mod Lost
 pub mod MainInput
 pub mod NamedOutputs
 pub mod NamedInputs

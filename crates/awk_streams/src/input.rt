@@ -3,7 +3,7 @@ ghost use Rattle.std.specs.Prelude.{◌≡◌, ◌≢◌, ◌≤◌, ◌<◌, �
 ghost use Rattle.std.specs.Prelude.{IsTrue, ◌↔◌, OnOk, OnErr, IfErr, IfSome, IfNone, None, Err, Ok};
 ghost use Rattle.awk_record.specs.Cut.{longest};
 ghost use Rattle.awk_record.specs.Buffer.{Steps};
-ghost use Rattle.awk_world.specs.definitions.WorldState.{SameOpen, MayFailNow};
+ghost use Rattle.awk_world.specs.definitions.WorldState.{SameOpen, MayFailInside};
 ghost use Rattle.awk_world.specs.definitions.Grows.{Grows};
 ghost use Rattle.awk_world.specs.definitions.Log.{Event, Read};
 ghost use Rattle.std.specs.Prelude.{ℤ};
@@ -74,7 +74,7 @@ fn read_into<W: World>(
     ensures less { OnOk result
         (room_of buffer.new.ending (length buffer.new.bytes) < room_of buffer.old.ending (length buffer.old.bytes)) }
     ensures no_failure { OnOk result (W.is_logged → (W.state world.new).failures ≡ (W.state world.old).failures) }
-    ensures failure { OnErr result (W.is_logged → MayFailNow (W.state world.old) (W.state world.new)) }
+    ensures failure { OnErr result (W.is_logged → MayFailInside (W.state world.old) (W.state world.new)) }
     ensures grows { W.is_logged → Grows (W.state world.old) (W.state world.new) }
 {
     match world.read(id, chunk) {
@@ -113,7 +113,7 @@ fn read_behind<W: World>(
     ensures less { OnOk result
         (room_of buffer.new.ending (length buffer.new.bytes) < room_of buffer.old.ending (length buffer.old.bytes)) }
     ensures no_failure { OnOk result (W.is_logged → (W.state world.new).failures ≡ (W.state world.old).failures) }
-    ensures failure { OnErr result (W.is_logged → MayFailNow (W.state world.old) (W.state world.new)) }
+    ensures failure { OnErr result (W.is_logged → MayFailInside (W.state world.old) (W.state world.new)) }
     ensures grows { W.is_logged → Grows (W.state world.old) (W.state world.new) }
 {
     match world.read(id, &mut memory[front..front + CHUNK]) {
@@ -147,7 +147,7 @@ fn read_more<W: World>(
     ensures less { OnOk result
         (room_of buffer.new.ending (length buffer.new.bytes) < room_of buffer.old.ending (length buffer.old.bytes)) }
     ensures no_failure { OnOk result (W.is_logged → (W.state world.new).failures ≡ (W.state world.old).failures) }
-    ensures failure { OnErr result (W.is_logged → MayFailNow (W.state world.old) (W.state world.new)) }
+    ensures failure { OnErr result (W.is_logged → MayFailInside (W.state world.old) (W.state world.new)) }
     ensures grows { W.is_logged → Grows (W.state world.old) (W.state world.new) }
 {
     if let Some((memory, front)) = buffer.lend_memory(CHUNK)? {
@@ -182,7 +182,7 @@ fn read_next<W: World>(
         Pulls id separator.now buffer.old (W.state world.old).log result buffer.new (W.state world.new).log }
     ensures no_failure { W.is_logged → result ≢ Err BufferFault.Memory →
         (W.state world.new).failures ≡ (W.state world.old).failures }
-    ensures failure { W.is_logged → result ≡ Err BufferFault.Memory → MayFailNow (W.state world.old) (W.state world.new) }
+    ensures failure { W.is_logged → result ≡ Err BufferFault.Memory → MayFailInside (W.state world.old) (W.state world.new) }
     ensures grows { W.is_logged → Grows (W.state world.old) (W.state world.new) }
 {
     loop {
@@ -208,7 +208,7 @@ fn take_at_hand(buffer: &mut RecordBuffer, separator: &[u8]) -> Option<Bytes>
 }
 
 // The next record of an input: one that is at hand is taken at once, and else it is read as far as it is needed.
-pub fn next_from<W: World>(
+pub(crate) fn next_from<W: World>(
     world: &mut W,
     id: u64,
     buffer: &mut RecordBuffer,
@@ -222,7 +222,7 @@ pub fn next_from<W: World>(
         Pulls id separator.now buffer.old (W.state world.old).log result buffer.new (W.state world.new).log }
     ensures no_failure { W.is_logged → result ≢ Err BufferFault.Memory →
         (W.state world.new).failures ≡ (W.state world.old).failures }
-    ensures failure { W.is_logged → result ≡ Err BufferFault.Memory → MayFailNow (W.state world.old) (W.state world.new) }
+    ensures failure { W.is_logged → result ≡ Err BufferFault.Memory → MayFailInside (W.state world.old) (W.state world.new) }
     ensures grows { W.is_logged → Grows (W.state world.old) (W.state world.new) }
 {
     if let Some(record) = take_at_hand(buffer, separator) {
@@ -232,7 +232,7 @@ pub fn next_from<W: World>(
 }
 
 // One asking of an input for its next record.
-pub fn next_step<W: World>(
+pub(crate) fn next_step<W: World>(
     input: &mut Input,
     chunk: &mut Vec<u8>,
     world: &mut W,
@@ -248,7 +248,7 @@ pub fn next_step<W: World>(
 }
 
 // Closes the input, if there is one.
-pub fn close<W: World>(world: &mut W, input: Option<Input>)
+pub(crate) fn close<W: World>(world: &mut W, input: Option<Input>)
     requires { IsOpenMain (W.state world.old) input }
     ensures open { ClosesMain (W.state world.old) (W.state world.new) input }
     ensures log { W.is_logged →
@@ -261,7 +261,7 @@ pub fn close<W: World>(world: &mut W, input: Option<Input>)
 }
 
 // What the buffer answers, in the words of the main input.
-pub fn told(step: Result<Step, BufferFault>) -> Result<Option<Bytes>, StreamFault>
+pub(crate) fn told(step: Result<Step, BufferFault>) -> Result<Option<Bytes>, StreamFault>
     requires { step ≢ Ok Step.NeedMore }
     ensures told { IsToldAs step result }
     ensures fault { IfErr result IsInputFault }
@@ -275,7 +275,7 @@ pub fn told(step: Result<Step, BufferFault>) -> Result<Option<Bytes>, StreamFaul
 }
 
 // What the buffer answers, in the words of a named input.
-pub fn named_told(step: Result<Step, BufferFault>) -> Result<NextNamed, StreamFault>
+pub(crate) fn named_told(step: Result<Step, BufferFault>) -> Result<NextNamed, StreamFault>
     requires { step ≢ Ok Step.NeedMore }
     ensures { IsNamedAs step result }
 {

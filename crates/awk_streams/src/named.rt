@@ -42,7 +42,7 @@ pub enum NamedStream {
 
 impl NamedStream {
     // Its number in the world.
-    pub fn id(&self) -> u64
+    pub(crate) fn id(&self) -> u64
         ensures { result ≡ number_of self.now }
     {
         match self {
@@ -51,7 +51,7 @@ impl NamedStream {
         }
     }
 
-    pub fn is_called(&self, text: &[u8]) -> bool
+    pub(crate) fn is_called(&self, text: &[u8]) -> bool
         ensures { result ≡ is_called_so text.now self.now }
     {
         match self {
@@ -61,7 +61,7 @@ impl NamedStream {
         }
     }
 
-    pub fn is_input(&self, wanted: InputKind, text: &[u8]) -> bool
+    pub(crate) fn is_input(&self, wanted: InputKind, text: &[u8]) -> bool
         ensures { result ≡ is_named_input wanted text.now self.now }
     {
         match self {
@@ -70,7 +70,7 @@ impl NamedStream {
         }
     }
 
-    pub fn is_output(&self, wanted: OutputKind, text: &[u8]) -> bool
+    pub(crate) fn is_output(&self, wanted: OutputKind, text: &[u8]) -> bool
         ensures { result ≡ is_named_output wanted text.now self.now }
     {
         match self {
@@ -79,7 +79,7 @@ impl NamedStream {
         }
     }
 
-    pub fn is_output_called(&self, text: &[u8]) -> bool
+    pub(crate) fn is_output_called(&self, text: &[u8]) -> bool
         ensures { result ≡ is_output_called_so text.now self.now }
     {
         match self {
@@ -89,7 +89,7 @@ impl NamedStream {
     }
 
     // Whether its closing is a command's.
-    pub fn is_command(&self) -> bool
+    pub(crate) fn is_command(&self) -> bool
         ensures { result ≡ is_command (name_of self.now) }
     {
         match self {
@@ -99,7 +99,7 @@ impl NamedStream {
     }
 
     // Prints to the output that this is.
-    pub fn print<W: World>(&mut self, world: &mut W, bytes: &[u8]) -> Result<(), StreamFault>
+    pub(crate) fn print<W: World>(&mut self, world: &mut W, bytes: &[u8]) -> Result<(), StreamFault>
         requires output { IsTrue (is_an_output self.old) }
         requires open { IsTrue ((W.state world.old).is_open (number_of self.old)) }
         ensures open { SameOpen (W.state world.old) (W.state world.new) }
@@ -115,7 +115,7 @@ impl NamedStream {
     }
 
     // The next record of the input that this is.
-    pub fn next<W: World>(
+    pub(crate) fn next<W: World>(
         &mut self,
         world: &mut W,
         chunk: &mut Vec<u8>,
@@ -136,7 +136,7 @@ impl NamedStream {
     }
 
     // Writes what is held back, and flushes it, if this is an output.
-    pub fn flush<W: World>(&mut self, world: &mut W) -> Result<(), StreamFault>
+    pub(crate) fn flush<W: World>(&mut self, world: &mut W) -> Result<(), StreamFault>
         requires { IsTrue ((W.state world.old).is_open (number_of self.old)) }
         ensures open { SameOpen (W.state world.old) (W.state world.new) }
         ensures same { unheld self.new ≡ unheld self.old }
@@ -151,48 +151,48 @@ impl NamedStream {
     }
 }
 
-pub fn is_input_command(kind: InputKind) -> bool
+pub(crate) fn is_input_command(kind: InputKind) -> bool
     ensures { result ≡ is_input_command_so kind }
 {
     kind == InputKind::Command
 }
 
-pub fn is_output_command(kind: OutputKind) -> bool
+pub(crate) fn is_output_command(kind: OutputKind) -> bool
     ensures { result ≡ is_output_command_so kind }
 {
     kind == OutputKind::Command
 }
 
 // The place of an input among these streams.
-pub fn find_input(named: &[NamedStream], kind: InputKind, text: &[u8]) -> Option<usize>
+pub(crate) fn find_input(named: &[NamedStream], kind: InputKind, text: &[u8]) -> Option<usize>
     ensures { result ≡ position (is_named_input kind text.now) named.now }
 {
     named.iter().position(|stream| stream.is_input(kind, text))
 }
 
 // The place of an output among these streams.
-pub fn find_output(named: &[NamedStream], kind: OutputKind, text: &[u8]) -> Option<usize>
+pub(crate) fn find_output(named: &[NamedStream], kind: OutputKind, text: &[u8]) -> Option<usize>
     ensures { result ≡ position (is_named_output kind text.now) named.now }
 {
     named.iter().position(|stream| stream.is_output(kind, text))
 }
 
 // The place of the first stream of this text.
-pub fn find_called(named: &[NamedStream], text: &[u8]) -> Option<usize>
+pub(crate) fn find_called(named: &[NamedStream], text: &[u8]) -> Option<usize>
     ensures { result ≡ position (is_called_so text.now) named.now }
 {
     named.iter().position(|stream| stream.is_called(text))
 }
 
 // Whether an output of this text is among these streams.
-pub fn has_output_called(named: &[NamedStream], text: &[u8]) -> bool
+pub(crate) fn has_output_called(named: &[NamedStream], text: &[u8]) -> bool
     ensures { result ≡ list_any (is_output_called_so text.now) named.now }
 {
     named.iter().any(|stream| stream.is_output_called(text))
 }
 
 // Adds a stream for which there is room.
-pub fn add(named: &mut Vec<NamedStream>, stream: NamedStream)
+pub(crate) fn add(named: &mut Vec<NamedStream>, stream: NamedStream)
     requires { vec_len named.old < vec_capacity named.old }
     ensures { named.new.items ≡ named.old.items ++ stream ∷ [] }
 {
@@ -200,7 +200,7 @@ pub fn add(named: &mut Vec<NamedStream>, stream: NamedStream)
 }
 
 // Writes what these streams hold back and flushes the outputs, up to the first failure.
-pub fn bring<W: World>(named: &mut [NamedStream], world: &mut W) -> Result<(), StreamFault>
+pub(crate) fn bring<W: World>(named: &mut [NamedStream], world: &mut W) -> Result<(), StreamFault>
     requires { AreOpenNamed (W.state world.old) named.old }
     ensures open { SameOpen (W.state world.old) (W.state world.new) }
     ensures same { all_unheld named.new ≡ all_unheld named.old }
@@ -220,7 +220,10 @@ pub fn bring<W: World>(named: &mut [NamedStream], world: &mut W) -> Result<(), S
 
 // Writes what these streams hold back and flushes the outputs, going on behind a failure; the first one
 // is answered.
-pub fn bring_each<W: World>(named: &mut [NamedStream], world: &mut W) -> Result<(), StreamFault>
+pub(crate) fn bring_each<W: World>(
+    named: &mut [NamedStream],
+    world: &mut W,
+) -> Result<(), StreamFault>
     requires { AreOpenNamed (W.state world.old) named.old }
     ensures open { SameOpen (W.state world.old) (W.state world.new) }
     ensures same { all_unheld named.new ≡ all_unheld named.old }

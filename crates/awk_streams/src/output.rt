@@ -29,7 +29,7 @@ fn output_fault(fault: WorldFault) -> StreamFault
 }
 
 // What a run of a command answers, in the words of the streams.
-pub fn run_answer(answer: Result<i128, WorldFault>) -> Result<i128, StreamFault>
+pub(crate) fn run_answer(answer: Result<i128, WorldFault>) -> Result<i128, StreamFault>
     ensures { result ≡ run_answer_of answer }
 {
     match answer {
@@ -39,7 +39,7 @@ pub fn run_answer(answer: Result<i128, WorldFault>) -> Result<i128, StreamFault>
 }
 
 // Writes all the bytes. After an `Err` a beginning of them is written.
-pub fn write_all<W: World>(world: &mut W, id: u64, bytes: &[u8]) -> Result<(), StreamFault>
+pub(crate) fn write_all<W: World>(world: &mut W, id: u64, bytes: &[u8]) -> Result<(), StreamFault>
     requires { IsTrue ((W.state world.old).is_open id) }
     ensures open { SameOpen (W.state world.old) (W.state world.new) }
     ensures fault { IfErr result IsOutputFault }
@@ -68,7 +68,7 @@ pub fn print_error<W: World>(world: &mut W, bytes: &[u8]) -> Result<(), StreamFa
 }
 
 // Flushes an output.
-pub fn flush<W: World>(world: &mut W, id: u64) -> Result<(), StreamFault>
+pub(crate) fn flush<W: World>(world: &mut W, id: u64) -> Result<(), StreamFault>
     requires { IsTrue ((W.state world.old).is_open id) }
     ensures open { SameOpen (W.state world.old) (W.state world.new) }
     ensures fault { IfErr result IsOutputFault }
@@ -153,7 +153,7 @@ impl Model for OutputBuffer {
 
 impl OutputBuffer {
     // Holds nothing back: before `make_room` each print is written at once. Takes no memory.
-    pub fn new(alloc: Global) -> Self
+    pub(crate) fn new(alloc: Global) -> Self
         ensures { result ≡ [] }
     {
         OutputBuffer {
@@ -163,7 +163,7 @@ impl OutputBuffer {
     }
 
     // Makes the room in which the output is held back, so that no print takes memory.
-    pub fn make_room(&mut self) -> Result<(), AllocError>
+    pub(crate) fn make_room(&mut self) -> Result<(), AllocError>
         ensures same { self.new ≡ self.old }
     {
         self.bytes.reserve(OUTPUT_BUFFER_SIZE)
@@ -171,7 +171,7 @@ impl OutputBuffer {
 
     // Prints the bytes: holds them back, or writes what is held and then holds back or writes them.
     // The world is asked how much is to be held back only where there is no room.
-    pub fn print<W: World>(
+    pub(crate) fn print<W: World>(
         &mut self,
         world: &mut W,
         id: u64,
@@ -196,7 +196,7 @@ impl OutputBuffer {
 
     // Holds two texts back, where there is room for both.
     #[inline]
-    pub fn hold_both(&mut self, front: &[u8], behind: &[u8]) -> bool
+    pub(crate) fn hold_both(&mut self, front: &[u8], behind: &[u8]) -> bool
         ensures { self.new ≡ (if result then self.old ++ (front.now ++ behind.now) else self.old) }
     {
         hold_both(&mut self.bytes, self.size, front, behind)
@@ -204,7 +204,7 @@ impl OutputBuffer {
 
     // Gives away what is held back, and how many bytes more there is room for.
     #[inline]
-    pub fn lend(&mut self, alloc: Global) -> (Vec<u8>, usize)
+    pub(crate) fn lend(&mut self, alloc: Global) -> (Vec<u8>, usize)
         ensures lent { result.0.items ≡ self.old }
         ensures empty { self.new ≡ [] }
     {
@@ -215,13 +215,13 @@ impl OutputBuffer {
 
     // Takes back what is held back.
     #[inline]
-    pub fn take_back(&mut self, bytes: Vec<u8>)
+    pub(crate) fn take_back(&mut self, bytes: Vec<u8>)
         ensures { self.new ≡ bytes.items }
     {
         self.bytes = bytes;
     }
 
-    pub fn flush<W: World>(&mut self, world: &mut W, id: u64) -> Result<(), StreamFault>
+    pub(crate) fn flush<W: World>(&mut self, world: &mut W, id: u64) -> Result<(), StreamFault>
         requires { IsTrue ((W.state world.old).is_open id) }
         ensures empty { self.new ≡ [] }
         ensures open { SameOpen (W.state world.old) (W.state world.new) }

@@ -1,12 +1,13 @@
 -- What a run of a program leaves in the world: what the program means.
-use Rattle.std.specs.Prelude.{◌≡◌, ◌≢◌, ℕ, List, [], None}
+use Rattle.std.specs.Prelude.{◌≡◌, ◌≢◌, ◌⊎◌, ℕ, true, List, [], None}
 use Rattle.awk_world.specs.declared.failure.Failure.{Failure}
 use Rattle.awk_journal.specs.Adds.{Adds, with_log}
 use Rattle.awk_streams.specs.Log.{Event}
 use Rattle.awk_streams.specs.Oracle.{Oracle, IsConsistent, standing}
 use Rattle.awk_streams.specs.Openings.{outputs_of}
 use Rattle.awk_streams.specs.Orderly.{IsOrderly}
-use Rattle.awk_streams.specs.WorldState.{WorldState}
+use Rattle.awk_streams.specs.WorldState.{WorldState, is_any}
+use Rattle.awk_streams.specs.Lost.{AreSilentBehind}
 use Rattle.awk_grammar.specs.Tree.{Item}
 use Rattle.awk_semantics.specs.declared.outcome.Outcome.{Outcome}
 use Rattle.awk_semantics.specs.declared.outcome.Outcome.TheVariants.{Fault}
@@ -25,20 +26,20 @@ pub record IsUndisturbed (world : WorldState) (result : Outcome) : Type 0 where
   pub memory : result ≢ Fault OutOfMemory
   pub failures : world.failures ≡ []
 
--- A run of the items leaves what they mean. Some oracle is consistent with its log, which is in order and at whose end nothing stands
--- open, however the run ended; and for each oracle that is:
+-- A run of the items leaves what they mean. Some oracle is consistent with its log, which is in order. However the run ended, nothing
+-- stands open at its end, and an output of which a write or a flush failed got no more bytes. For each oracle that is consistent:
 -- undisturbed, the outcome is the meaning's, each opening of an output has received exactly its bytes, and the log meets its
--- requests in turn; disturbed, the run fails as the language has it, and one that found no memory of its own was cut between two
--- of its effects.
+-- requests in turn; disturbed, the run fails as the language has it, and was cut between two of its effects.
 pub record Runs (items : List Item) (start : StartValues) (limit : ℕ) (world : WorldState) (result : Outcome) : Type 0 where
   pub some : (oracle : Oracle) × IsConsistent oracle world.log
   pub orderly : IsOrderly world.log
   pub closed : (id : ℕ) → standing id world.log ≡ None
+  pub silent : AreSilentBehind world.log world.failures
   pub outcome : IsUndisturbed world result → (oracle : Oracle) → IsConsistent oracle world.log → (meaning_of items start oracle limit).outcome ≡ result
   pub outputs : IsUndisturbed world result → (oracle : Oracle) → IsConsistent oracle world.log → outputs_of world.log ≡ (meaning_of items start oracle limit).outputs
   pub turn : IsUndisturbed world result → (oracle : Oracle) → IsConsistent oracle world.log → IsInTurn oracle (meaning_of items start oracle limit) world.log
   pub failure : Fails (λ oracle. meaning_of items start oracle limit) world result
-  pub cut : world.failures ≡ [] → result ≡ Fault OutOfMemory → (oracle : Oracle) → IsConsistent oracle world.log → IsCutBetween oracle (effects_of items start oracle limit) world.log
+  pub cut : (is_any world.failures ≡ true) ⊎ (result ≡ Fault OutOfMemory) → (oracle : Oracle) → IsConsistent oracle world.log → IsCutBetween oracle (effects_of items start oracle limit) world.failures world.log
 
 -- from a world in which nothing was done, a run leaves what the items mean
 pub record RunsFrom (is_logged : Type 0) (items : List Item) (start : StartValues) (limit : ℕ) (before after : WorldState) (result : Outcome) : Type 0 where

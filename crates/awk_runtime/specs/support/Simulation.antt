@@ -12,7 +12,8 @@ use Rattle.awk_streams.specs.Oracle.{Oracle, IsConsistent, how_many, opens_input
 use Rattle.awk_streams.specs.Log.{Event}
 use Rattle.awk_streams.specs.Openings.{Begins}
 use Rattle.awk_streams.specs.Grows.{Grows}
-use Rattle.awk_streams.specs.Streams.{StreamsView, AreOpen, AreSound, AreAs, numbered, printed_openings}
+use Rattle.awk_streams.specs.Streams.{StreamsView, AreOpen, AreSound, AreAs, numbered, held_of, printed_openings}
+use Rattle.awk_streams.specs.Lost.{KeepsOthers}
 use Rattle.awk_kinds.specs.declared.special.Special.{Special}
 use Rattle.awk_kinds.specs.Variables.{value_of, name_of}
 use Rattle.awk_semantics.specs.declared.halt.Halt.{Halt}
@@ -87,9 +88,9 @@ pub record IsReady (is_logged : Type 0) (k : WorldState) (streams : StreamsView)
   pub are_open : AreOpen k streams
   pub are_sound : is_logged → AreSound k streams
 
--- a part that a failure ended: of these effects some were done, whose requests the log met in turn, and where the world met no
--- failure the outputs, with what is held back, are what those print; they always begin what all print. The world's failures
--- stand so
+-- a part that a failure ended: of these effects some were done, whose requests the log met in turn, and the outputs, with what is
+-- held back, are what those print, but for those of which a write or a flush failed; they all begin what all effects print. The
+-- world's failures stand so
 pub record FailureRelation (oracle : Oracle) (stands : Type 0) (streams : StreamsView) (k : WorldState) (effects : List Effect) : Type 0 where
   pub done : List Effect
   pub others : List Effect
@@ -97,7 +98,7 @@ pub record FailureRelation (oracle : Oracle) (stands : Type 0) (streams : Stream
   pub last : Stage
   pub at : last.log ≡ k.log
   pub turn : MeetsAll oracle (requests_from first_outputs done) first_stage last
-  pub kept : k.failures ≡ [] → printed_openings k streams ≡ outputs_after done
+  pub keeps : KeepsOthers (outputs_after done) k (held_of streams)
   pub begins : Begins (printed_openings k streams) (outputs_after effects)
   pub failure : stands
 

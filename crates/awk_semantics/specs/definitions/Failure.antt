@@ -6,8 +6,9 @@ use Rattle.awk_world.specs.declared.world.WorldFault.TheVariants.{Memory, Failed
 use Rattle.awk_streams.specs.Log.{Event}
 use Rattle.awk_streams.specs.Oracle.{Oracle, IsConsistent}
 use Rattle.awk_streams.specs.Writes.{with_events}
-use Rattle.awk_streams.specs.Openings.{outputs_of, Begins, AreBrought}
+use Rattle.awk_streams.specs.Openings.{outputs_of, Begins}
 use Rattle.awk_streams.specs.WorldState.{WorldState, is_any, first_of}
+use Rattle.awk_streams.specs.Lost.{AreBroughtBut}
 pub use Rattle.awk_streams.specs.Commands.{AreOfTheEnd}
 use Rattle.awk_grammar.specs.Tree.{Item}
 use Rattle.awk_semantics.specs.declared.fault as declared
@@ -49,8 +50,9 @@ abbrev pub effects_of : List Item → StartValues → Oracle → ℕ → List Ef
 effects_of items start oracle limit = (assign_and_run items limit start.pre (start_state items start oracle limit)).effects
 
 -- a run that was cut between two of its effects: its log met the requests of those before the cut, in turn, and then is of the end
--- alone; each opening of an output has received just what those print, and was flushed
-pub record IsCutBetween (oracle : Oracle) (effects : List Effect) (log : List Event) : Type 0 where
+-- alone; each opening of an output has received just what those print, and was flushed, but for those of which a write or a flush
+-- failed
+pub record IsCutBetween (oracle : Oracle) (effects : List Effect) (failures : List Failure) (log : List Event) : Type 0 where
   pub done : List Effect
   pub others : List Effect
   pub parts : effects ≡ done ++ others
@@ -61,7 +63,7 @@ pub record IsCutBetween (oracle : Oracle) (effects : List Effect) (log : List Ev
   pub at : last.log ≡ earlier
   pub turn : MeetsAll oracle (requests_from first_outputs done) first_stage last
   pub ends : AreOfTheEnd later
-  pub brought : AreBrought (outputs_after done) log
+  pub brought : AreBroughtBut failures (outputs_after done) log
 
 -- a fault that the meaning had settled before: this log meets all its requests before the end
 pub record IsSettled (oracle : Oracle) (meaning : Meaning) (log : List Event) (result : Outcome) : Type 0 where

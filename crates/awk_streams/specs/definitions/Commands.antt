@@ -1,5 +1,5 @@
 -- What closings, runs of commands and the end of a run do (POSIX awk, Input/Output and General Functions: close, system).
-use Rattle.std.specs.Prelude.{◌≡◌, ◌+◌, ◌≤◌, ℕ, ℤ, pos, negsuc, Bool, true, false, List, [], ◌∷◌, ◌++◌, map, length, Option, None, Some, is_some, filter, Result, Ok, Err, OnOk, OnErr, if◌then◌else◌, IfErr}
+use Rattle.std.specs.Prelude.{◌≡◌, ◌+◌, ◌≤◌, ℕ, ℤ, pos, negsuc, Bool, true, false, List, [], ◌∷◌, ◌++◌, map, length, Option, None, Some, filter, Result, Ok, Err, OnOk, OnErr, if◌then◌else◌, IfErr}
 use Rattle.std.specs.Result.{result_and}
 use Rattle.awk_world.specs.declared.world.InputKind.{InputKind}
 use Rattle.awk_world.specs.declared.world.OutputKind.{OutputKind}
@@ -16,6 +16,7 @@ use Rattle.awk_streams.specs.declared.named.NamedStream.{NamedStream}
 use Rattle.awk_streams.specs.definitions.Named.{Named, Stream, is_command, is_other, number_among, without_number}
 use Rattle.awk_streams.specs.definitions.Outputs.{WritesAndFlushes, output_fault_of}
 use Rattle.awk_streams.specs.definitions.Streams.{StreamsView, number_of, name_of, numbered, is_called, held_of, printed_openings, AreAs, FailsAs, AreBringing, Brings}
+use Rattle.awk_streams.specs.definitions.Lost.{Spares, AreBroughtBut, AreSpent, AreSilentBehind}
 use Rattle.awk_streams.specs.definitions.MainInput.{EndsMain}
 use Rattle.awk_streams.specs.definitions.NamedOutputs.{LosesBytes}
 use Rattle.awk_world.specs.declared.failure.Failure.{Failure}
@@ -68,6 +69,7 @@ pub record BringsAll (before : WorldState) (old : StreamsView) (after : WorldSta
   pub main : new.main ≡ old.main
   pub numbers : numbered new.named ≡ numbered old.named
   pub printed : printed_openings after new ≡ printed_openings before old
+  pub spares : Spares before (held_of old) after (held_of new)
   pub counts : SameCounts before.log after.log
   pub same : (a : Oracle) (main : Option Source) (open_streams : List Stream) → AreAs a before old main open_streams → AreAs a after new main open_streams
   pub no_failure : after.failures ≡ before.failures
@@ -194,6 +196,9 @@ pub record Finishes (before : WorldState) (old : StreamsView) (result : Result (
   pub ends : OnOk result (EndsAll before old after new)
   pub brought : OnOk result (AreBrought (printed_openings before old) after.log)
   pub begins : Begins (outputs_of after.log) (printed_openings before old)
+  -- on every result
+  pub others : AreBroughtBut after.failures (printed_openings before old) after.log
+  pub silent : AreSpent before.failures (held_of old) → AreSilentBehind before.log before.failures → AreSilentBehind after.log after.failures
   pub no_failure : OnOk result (after.failures ≡ before.failures)
   pub failure : OnErr result (is_any after.failures ≡ true)
   -- the first failure is the one that the result tells

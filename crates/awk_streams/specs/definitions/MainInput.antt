@@ -15,7 +15,7 @@ use Rattle.awk_streams.specs.declared.fault.StreamFault.TheVariants.{Memory, Inp
 use Rattle.awk_streams.specs.declared.input.Input.{Input}
 use Rattle.awk_streams.specs.definitions.Inputs.{ReadsAsNeeded, NextTold}
 use Rattle.awk_streams.specs.definitions.Named.{Stream}
-use Rattle.awk_streams.specs.definitions.Streams.{StreamsView, AreOpen, AreSound, IsSameMain, printed_openings, IsMainRest, StandFor, FailsAs}
+use Rattle.awk_streams.specs.definitions.Streams.{StreamsView, AreOpen, AreSound, IsSameMain, printed_openings, IsMainRest, StandFor, FailsInside}
 
 -- one more opening of this input was answered, and no other opening, no closing of a command and no run
 pub record CountsInput (kind : InputKind) (name : List ℕ) (old new : List Event) : Type 0 where
@@ -44,7 +44,7 @@ pub record OpensMain (kind : InputKind) (name : List ℕ) (before : WorldState) 
   pub granted : OnOk result ((a : Oracle) → IsConsistent a after.log → (s : Source) × (input_answer a kind name before.log ≡ Some s) × IsMainRest a after.log new.main (Some s))
   pub refused : result ≡ Err InputNotReadable → (a : Oracle) → IsConsistent a after.log → input_answer a kind name before.log ≡ None
   pub named : (a : Oracle) (open_streams : List Stream) → StandFor a before.log old.named open_streams → StandFor a after.log new.named open_streams
-  pub failure : FailsAs result before after
+  pub failure : FailsInside result before after
 
 -- the main input is read only while what is at hand doesn't decide its next record, and never behind its ending
 abbrev pub ReadsMain : List ℕ → Option Input → List Event → List Event → Type 0
@@ -61,7 +61,7 @@ pub record AsksMain (separator : List ℕ) (before : WorldState) (old : StreamsV
   pub answered : result ≢ Err Memory → (a : Oracle) (whole : Source) → IsConsistent a after.log → IsMainRest a before.log old.main (Some whole) →
       (left : List ℕ) × NextTold (cut_of separator whole.bytes whole.ending) result whole.bytes left × IsMainRest a after.log new.main (Some record { bytes = left; ending = whole.ending })
   pub named : (a : Oracle) (open_streams : List Stream) → StandFor a before.log old.named open_streams → StandFor a after.log new.named open_streams
-  pub failure : FailsAs result before after
+  pub failure : FailsInside result before after
 
 -- Records at hand, of which many are taken at once.
 

@@ -14,7 +14,7 @@ use Rattle.awk_streams.specs.declared.input.NextNamed.{NextNamed}
 use Rattle.awk_streams.specs.declared.input.NextNamed.TheVariants.{Record, End, NotReadable}
 use Rattle.awk_streams.specs.definitions.Inputs.{ReadsAsNeeded, Rest}
 use Rattle.awk_streams.specs.definitions.Named.{Stream, AnInput, Input, is_input_command, rest_in, with_rest_of, number_among}
-use Rattle.awk_streams.specs.definitions.Streams.{StreamsView, most_streams, numbered, printed_openings, IsMainRest, StandFor, AreAs, FailsAs, BringsIf}
+use Rattle.awk_streams.specs.definitions.Streams.{StreamsView, most_streams, numbered, printed_openings, IsMainRest, StandFor, AreAs, FailsAs, FailsInside, BringsIf}
 use Rattle.awk_streams.specs.definitions.MainInput.{CountsInput, input_answer}
 use Rattle.awk_streams.specs.definitions.NamedOutputs.{LosesBytes}
 
@@ -118,7 +118,7 @@ pub record AsksNamed (kind : InputKind) (name separator : List ℕ) (before : Wo
   pub counts : SameCounts before.log after.log
   pub answered : result ≢ Err Memory → (a : Oracle) (main : Option Source) (open_streams : List Stream) → IsConsistent a after.log → AreAs a before old main open_streams →
       IsNamedAnswer kind name separator id pending a main open_streams before result after new
-  pub failure : FailsAs result before after
+  pub failure : FailsInside result before after
 
 -- the next record, where the input stands open
 abbrev pub AsksIfOpen : Result Bool StreamFault → InputKind → (name separator : List ℕ) → WorldState → StreamsView → Result NextNamed StreamFault → WorldState → StreamsView → Type 0

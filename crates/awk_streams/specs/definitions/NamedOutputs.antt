@@ -1,5 +1,5 @@
 -- What opening a named output and printing do (POSIX awk, Output Statements; STDOUT; STDERR; OUTPUT FILES).
-use Rattle.std.specs.Prelude.{◌≡◌, ◌⊎◌, ◌≤◌, ◌<◌, ◌+◌, ℕ, ◌&&◌, true, false, List, [], ◌∷◌, ◌++◌, length, Option, Some, None, is_some, Result, Ok, Err, OnOk, OnErr, bytes_eq}
+use Rattle.std.specs.Prelude.{◌≡◌, ◌⊎◌, ◌≤◌, ◌<◌, ◌+◌, ℕ, ◌&&◌, true, false, List, [], ◌∷◌, ◌++◌, length, Option, Some, None, Result, Ok, Err, OnOk, OnErr, bytes_eq}
 use Rattle.awk_world.specs.declared.world.InputKind.{InputKind}
 use Rattle.awk_world.specs.declared.world.OutputKind.{OutputKind}
 use Rattle.awk_world.specs.declared.world.Mode.{Mode}
@@ -13,7 +13,8 @@ use Rattle.awk_streams.specs.declared.fault.StreamFault.{StreamFault}
 use Rattle.awk_streams.specs.declared.fault.StreamFault.TheVariants.{Memory, WriteFailed, OutputNotOpened, TooManyStreams}
 use Rattle.awk_streams.specs.declared.streams.Target.{Target}
 use Rattle.awk_streams.specs.definitions.Named.{Stream, AnOutput, Output, is_output_command, opening_in, with_bytes}
-use Rattle.awk_streams.specs.definitions.Streams.{StreamsView, most_streams, numbered, printed_openings, IsMainRest, StandFor, AreAs, number_at, opening_at, FailsAs, AreBringing, BringsIf}
+use Rattle.awk_streams.specs.definitions.Lost.{Spares}
+use Rattle.awk_streams.specs.definitions.Streams.{StreamsView, most_streams, numbered, printed_openings, held_of, IsMainRest, StandFor, AreAs, number_at, opening_at, FailsAs, AreBringing, BringsIf}
 
 -- one more opening of this output was answered, and no other opening, no closing of a command and no run
 pub record CountsOutput (kind : OutputKind) (name : List ℕ) (old new : List Event) : Type 0 where
@@ -68,11 +69,11 @@ pub record RefusesOutput (kind : OutputKind) (name : List ℕ) (mode : Mode) (be
   pub printed : printed_openings after new ≡ printed_openings before old
   pub named : (a : Oracle) (open_streams : List Stream) → StandFor a before.log old.named open_streams → StandFor a after.log new.named open_streams
 
--- what is held back could not be brought, or there was no memory: beginnings are received, and all where the world met no failure
+-- what is held back could not be brought, or there was no memory: beginnings are received, and all of what no failure is of
 pub record LosesBytes (before : WorldState) (old : StreamsView) (after : WorldState) (new : StreamsView) : Type 0 where
   pub only : GoesOn AreBringing before.log after.log
   pub begins : Begins (printed_openings after new) (printed_openings before old)
-  pub kept : after.failures ≡ [] → printed_openings after new ≡ printed_openings before old
+  pub spares : Spares before (held_of old) after (held_of new)
 
 abbrev pub OutputOpened : OutputKind → List ℕ → Mode → WorldState → StreamsView → Result Target StreamFault → WorldState → StreamsView → Type 0
 OutputOpened kind name mode before old (Ok target) after new = FindsOutput kind name before old target after new ⊎ GrantsOutput kind name mode before old target after new
@@ -103,6 +104,7 @@ pub record Prints (target : Target) (bytes : List ℕ) (before : WorldState) (ol
   pub still : opening_at target new after.log ≡ Some opening
   pub printed : OnOk result (printed_openings after new ≡ with_bytes opening bytes (printed_openings before old))
   pub partly : OnErr result (Begins (printed_openings after new) (with_bytes opening bytes (printed_openings before old)))
+  pub spares : OnErr result (Spares before (held_of old) after (held_of new))
   pub marked : OnErr result (is_any after.failures ≡ true)
   pub counts : SameCounts before.log after.log
   pub same : (a : Oracle) (main : Option Source) (open_streams : List Stream) → AreAs a before old main open_streams → AreAs a after new main open_streams

@@ -3,7 +3,7 @@
 use Rattle.std.specs.Prelude.{◌≡◌, ◌≢◌, ◌≤◌, ℕ, Bool, true, false, ◌||◌, ◌==◌, List, [], ◌∷◌, length, slice_get, Option, Some, None, is_some, Result, Ok, Err, bytes_eq, if◌then◌else◌}
 use Rattle.awk_world.specs.declared.world.InputKind.{InputKind}
 use Rattle.awk_world.specs.declared.world.InputKind.TheVariants.{Command}
-use Rattle.awk_world.specs.definitions.WorldState.{WorldState, Closes, SameOpen, FailsNow, MayFailNow}
+use Rattle.awk_world.specs.definitions.WorldState.{WorldState, Closes, SameOpen, FailsNow, MayFailNow, MayFailInside}
 use Rattle.awk_world.specs.declared.world.WorldFault.TheVariants.{Failed}
 use Rattle.awk_world.specs.definitions.Log.{Event, Wrote, Flushed}
 use Rattle.awk_world.specs.definitions.Oracle.{Oracle, Source, AnInput as InputStands, AnOutput as OutputStands, standing}
@@ -247,6 +247,11 @@ FailsBy fault before after = after.failures ≡ before.failures
 abbrev pub FailsAs : {T : Type 0} → Result T StreamFault → WorldState → WorldState → Type 0
 FailsAs (Ok x) before after = after.failures ≡ before.failures
 FailsAs (Err fault) before after = FailsBy fault before after
+
+-- a call that writes to no output, which may fail for want of memory alone
+abbrev pub FailsInside : {T : Type 0} → Result T StreamFault → WorldState → WorldState → Type 0
+FailsInside (Err Memory) before after = MayFailInside before after
+FailsInside result before after = after.failures ≡ before.failures
 
 -- these events only bring bytes to outputs
 abbrev pub AreBringing : List Event → Type 0

@@ -9,7 +9,7 @@ use Rattle.awk_world.specs.declared.world.InputKind.{InputKind}
 use Rattle.awk_world.specs.declared.world.OutputKind.{OutputKind}
 use Rattle.awk_world.specs.declared.world.Mode.{Mode}
 use Rattle.awk_world.specs.definitions.Log.{Event, OpenedInput, OpenedOutput}
-use Rattle.awk_world.specs.definitions.WorldState.{WorldState, SameOpen, IsFresh, Opens, MayFailNow, is_any}
+use Rattle.awk_world.specs.definitions.WorldState.{WorldState, SameOpen, IsFresh, Opens, MayFailInside, is_any}
 use Rattle.awk_world.specs.definitions.Openings.{openings, in_order, Begins}
 use Rattle.awk_world.specs.definitions.Grows.{Grows}
 use Rattle.awk_streams.specs.declared.fault.StreamFault.{StreamFault}
@@ -23,6 +23,7 @@ use Rattle.awk_streams.specs.declared.streams.Target.{Target}
 use Rattle.awk_streams.specs.declared.streams.Target.TheVariants as target
 use Rattle.awk_streams.specs.definitions.Inputs.{input_fault_of}
 use Rattle.awk_streams.specs.definitions.Streams.{StreamsView, held_of, with_held, is_output_among, FailsAs, BringsIf}
+use Rattle.awk_streams.specs.definitions.Lost.{Spares}
 use Rattle.awk_streams.specs.support.Pulls.{Pulls}
 use Rattle.awk_streams.specs.support.Brings.{Touches}
 use Rattle.awk_streams.specs.support.Places.{is_named_input}
@@ -32,6 +33,7 @@ pub record Prepares (is_command : Bool) (before : WorldState) (old : StreamsView
   pub touches : Touches (λ j. is_output_among j (held_of old)) before after
   pub printed : OnOk result (with_held (held_of new) (openings after.log) ≡ with_held (held_of old) (openings before.log))
   pub begins : Begins (in_order (with_held (held_of new) (openings after.log))) (in_order (with_held (held_of old) (openings before.log)))
+  pub spares : Spares before (held_of old) after (held_of new)
   pub brings : OnOk result (BringsIf is_command before old after.log)
   pub marked : OnErr result (is_any after.failures ≡ true)
   pub failure : FailsAs result before after
@@ -41,7 +43,7 @@ pub record FindsNoMemory (before : WorldState) (old : StreamsView) (after : Worl
   pub log : after.log ≡ before.log
   pub same : new ≡ old
   pub open_as : SameOpen before after
-  pub failure : MayFailNow before after
+  pub failure : MayFailInside before after
   pub grows : Grows before after
 
 -- the world refused to open a stream
@@ -82,7 +84,7 @@ pub record Takes (separator : List ℕ) (before : WorldState) (old : Input) (ste
   pub id : new.id ≡ old.id
   pub pulls : Pulls old.id separator old.pending before.log step new.pending after.log
   pub no_failure : step ≢ Err BufferMemory → after.failures ≡ before.failures
-  pub failure : step ≡ Err BufferMemory → MayFailNow before after
+  pub failure : step ≡ Err BufferMemory → MayFailInside before after
   pub grows : Grows before after
 
 abbrev pub TakesNamed : List ℕ → WorldState → NamedStream → Result Step BufferFault → WorldState → NamedStream → Type 0

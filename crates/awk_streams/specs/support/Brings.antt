@@ -1,5 +1,5 @@
 -- Bringing what outputs hold back to them, step by step.
-use Rattle.std.specs.Prelude.{◌≡◌, ℕ, Bool, true, false, List, is_some, Result, Ok, OnOk, OnErr}
+use Rattle.std.specs.Prelude.{◌≡◌, ℕ, Bool, true, false, List, Result, Ok, OnOk, OnErr}
 use Rattle.awk_world.specs.definitions.Log.{Event}
 use Rattle.awk_world.specs.definitions.Oracle.{SameCounts}
 use Rattle.awk_world.specs.definitions.Orderly.{IsInOrder}
@@ -11,6 +11,7 @@ use Rattle.awk_streams.specs.declared.fault.StreamFault.{StreamFault}
 use Rattle.awk_streams.specs.declared.named.NamedStream.{NamedStream}
 use Rattle.awk_streams.specs.declared.named.NamedStream.TheVariants as named
 use Rattle.awk_streams.specs.definitions.Streams.{StreamsView, AreOpen, AreSound, held_of, with_held, is_output_among, AreBringing}
+use Rattle.awk_streams.specs.definitions.Lost.{Spares}
 use Rattle.awk_streams.specs.definitions.Outputs.{WritesAndFlushes}
 use Rattle.awk_streams.specs.support.Kept.{SameAt}
 
@@ -37,6 +38,7 @@ pub record BringsHeld (before : WorldState) (old : List (ℕ × List ℕ)) (resu
   pub touches : Touches (λ j. is_output_among j old) before after
   pub printed : OnOk result (with_held new (openings after.log) ≡ with_held old (openings before.log))
   pub begins : Begins (in_order (with_held new (openings after.log))) (in_order (with_held old (openings before.log)))
+  pub spares : Spares before old after new
   pub no_failure : OnOk result (after.failures ≡ before.failures)
   pub failure : OnErr result (is_any after.failures ≡ true)
 

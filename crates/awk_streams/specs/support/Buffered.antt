@@ -1,11 +1,7 @@
 -- What printing to an output that holds back comes to.
-use Rattle.std.specs.Prelude.{◌≡◌, ◌≤◌, ℕ, List, [], ◌++◌, length, take, true, is_some, Result, OnOk, OnErr}
-use Rattle.std.specs.Result.{is_ok}
+use Rattle.std.specs.Prelude.{◌≡◌, ℕ, List, [], ◌++◌, Result, OnOk, OnErr}
 use Rattle.awk_streams.specs.declared.fault.StreamFault.{StreamFault}
-use Rattle.awk_world.specs.definitions.Log.{Event}
-use Rattle.awk_world.specs.definitions.WorldState.{WorldState, FailsNow}
-use Rattle.awk_world.specs.definitions.Writes.{GoesOn, Writes, flushed_if}
-use Rattle.awk_world.specs.definitions.Grows.{Grows}
+use Rattle.awk_world.specs.definitions.WorldState.{WorldState}
 use Rattle.awk_streams.specs.definitions.Outputs.{WritesAll}
 
 -- these bytes were printed behind those that were held back: what is written of both is a beginning, and the rest is held back,

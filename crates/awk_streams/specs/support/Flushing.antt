@@ -1,6 +1,6 @@
 -- Flushing some of the outputs, step by step.
-use Rattle.std.specs.Prelude.{◌≡◌, ℕ, zero, suc, Bool, true, false, ◌&&◌, ◌==◌, List, [], ◌∷◌, Option, Some, None, Result, OnOk, OnErr, IfErr}
-use Rattle.awk_world.specs.definitions.WorldState.{WorldState, FailsNow}
+use Rattle.std.specs.Prelude.{◌≡◌, ℕ, zero, suc, Bool, true, false, ◌&&◌, ◌==◌, List, [], ◌∷◌, Option, Some, None, Result, OnOk, IfErr}
+use Rattle.awk_world.specs.definitions.WorldState.{WorldState}
 use Rattle.awk_world.specs.definitions.Writes.{GoesOn}
 use Rattle.awk_world.specs.definitions.Openings.{is_flushed}
 use Rattle.awk_streams.specs.declared.fault.StreamFault.{StreamFault}

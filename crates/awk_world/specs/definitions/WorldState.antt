@@ -52,3 +52,7 @@ FailsNow what before after = (output : Option ℕ) × (after.failures ≡ record
 -- this met no failure, or ended with refused memory
 abbrev pub MayFailNow : WorldState → WorldState → Type 0
 MayFailNow before after = (after.failures ≡ before.failures) ⊎ FailsNow Memory before after
+
+-- this met no failure, or ended with refused memory that was for no output
+abbrev pub MayFailInside : WorldState → WorldState → Type 0
+MayFailInside before after = (after.failures ≡ before.failures) ⊎ (after.failures ≡ record { at = length after.log; output = None; what = Memory } ∷ before.failures)

@@ -5,9 +5,7 @@ use Rattle.std.proofs.lemmas.List.{with_items_is}
 use Rattle.awk_streams.specs.declared.named.NamedStream.{NamedStream}
 use Rattle.awk_streams.specs.support.Held.{AreEmpty, HoldsNothing}
 use Rattle.awk_streams.proofs.StreamsLemmas.{but_held_length}
-use Rattle.awk_world.specs.definitions.WorldState.{FailsNow}
 use Rattle.awk_streams.proofs.WritingLemmas.{fails_with_later}
-use Rattle.awk_streams.proofs.BufferedLemmas.{on_err}
 use Rattle.awk_streams.proofs.BringLemmas.{on_ok}
 use Rattle.std.proofs.lemmas.Result.{err_from_is_err_and, IfErr-weaker}
 use Rattle.awk_streams.specs.definitions.Streams.{StreamsView, AreOpen, AreOpenNamed, AreApart, AreSoundNamed, AreSound, held_of, held_in, all_unheld}

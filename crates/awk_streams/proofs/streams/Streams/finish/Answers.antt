@@ -13,7 +13,7 @@ returns-clause-told g c = λ t.
     let none = ap (λ (v : StreamsView). record v { named = [] }) c.close_main.ensures.none in
     let main = ap (λ (v : StreamsView). v.main) (c.close_all.ensures.none ∙ none) in
     let named = ap (λ (v : StreamsView). v.named) (c.close_all.ensures.none ∙ none) in
-    finishes (w.state c.args.world.now) (w.state c.bring_each-brought.new.world) (w.state c.close_main.new.world) (w.state c.close_all.new.world) c.args.self.now c.bring_each-brought.new.self c.close_main.new.self c.close_all.new.self c.bring_each-brought.result closes.0
+    finishes (w.state c.args.world.now) (w.state c.bring_each-brought.new.world) (w.state c.close_main.new.world) (w.state c.close_all.new.world) c.args.self.now c.bring_each-brought.new.self c.close_main.new.self c.close_all.new.self c.bring_each-brought.result closes.0 c.requires.open (c.requires.sound t).flushed
     (brings_and_closes (w.state c.args.world.now) (w.state c.bring_each-brought.new.world) (w.state c.close_main.new.world) (w.state c.close_all.new.world) c.args.self.now c.bring_each-brought.new.self c.close_main.new.self c.close_all.new.self c.bring_each-brought.result closes.0 (c.bring_each-brought.ensures.each t) c.bring_each-brought.ensures.main c.bring_each-brought.ensures.same
     (c.requires.sound t).once c.close_main.ensures.none (c.close_main.ensures.told t) closes.1)
     (c.bring_each-brought.ensures.told t) c.bring_each-brought.ensures.main c.bring_each-brought.ensures.same
