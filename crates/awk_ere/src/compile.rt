@@ -45,7 +45,7 @@ fn compile_checked(alloc: Global, text: &[u8]) -> Result<Program, PatternFault>
 /// `BadCount` where a count is above 255, a least count above its greatest or a range descends; else it is `TooLarge`
 /// where it exceeds a limit. `Memory` is answered only where a growth was refused. The time is linear in the text,
 /// but for repeats of repeats, each of which moves its body; no nesting of the text is a nesting of calls.
-pub fn compile(alloc: Global, text: &[u8]) -> Result<Program, PatternFault>
+pub(crate) fn compile(alloc: Global, text: &[u8]) -> Result<Program, PatternFault>
     ensures found { IfOk result (λ p. (t : Tree) × SpellsWithin t text.now × Compiles t p) }
     ensures refused { IfErr result (λ e. Refused e text.now) }
 {

@@ -82,7 +82,7 @@ fn push_up_to(
 }
 
 /// The rounds of the body that a repeat allows.
-pub fn push_repeat(
+pub(crate) fn push_repeat(
     instructions: &mut Vec<Instruction>,
     body: &[Instruction],
     repeat: Repeat,
@@ -107,7 +107,7 @@ pub fn push_repeat(
 }
 
 /// In the place of the instructions from a place on, the rounds of them that a repeat allows.
-pub fn repeat_from(
+pub(crate) fn repeat_from(
     instructions: &mut Vec<Instruction>,
     start: usize,
     repeat: Repeat,

@@ -97,7 +97,7 @@ pub fn only_token(tokens: &[Token], stretch: Stretch) -> Option<&Token> {
 }
 
 /// The number that a stretch of tokens is, with a minus or without.
-pub fn constant_of(tokens: &[Token], stretch: Stretch) -> Option<i128> {
+pub(crate) fn constant_of(tokens: &[Token], stretch: Stretch) -> Option<i128> {
     match tokens.get(stretch.from..stretch.to)? {
         [only] => match &only.kind {
             Kind::Number(value) => Some(*value),

@@ -9,7 +9,7 @@ use crate::checked_expressions::{CheckedExpr, CheckedExprs};
 use std::alloc::AllocError;
 
 /// A list with one expression more.
-pub fn one_more_expr(
+pub(crate) fn one_more_expr(
     list: Option<CheckedExprs>,
     expr: Option<CheckedExpr>,
 ) -> Result<Option<CheckedExprs>, AllocError>

@@ -9,7 +9,7 @@ use awk_value::Bytes;
 use std::alloc::{AllocError, Global};
 
 /// How many bytes stand before the next delimiter that no backslash escapes, where one stands on the same line.
-pub fn body_len(text: &[u8], delimiter: u8) -> Option<usize>
+pub(crate) fn body_len(text: &[u8], delimiter: u8) -> Option<usize>
     ensures is { result ≡ body_len delimiter false text.now }
     ensures within { IfSome result (λ len. len + 1 ≤ length text.now) }
 {
@@ -27,7 +27,7 @@ pub fn body_len(text: &[u8], delimiter: u8) -> Option<usize>
 }
 
 /// The bytes that the text between two quotes stands for, where its escapes are all of the table.
-pub fn string_value(alloc: Global, body: Bytes) -> Result<Option<Bytes>, AllocError>
+pub(crate) fn string_value(alloc: Global, body: Bytes) -> Result<Option<Bytes>, AllocError>
     ensures { IfOk result (λ value. value ≡ unescaped body) }
 {
     if !body.as_slice().contains(&b'\\') {

@@ -75,7 +75,7 @@ fn short_lexeme(byte: u8) -> Lexeme
 }
 
 /// The longest punctuator in front of a text that begins with no slash.
-pub fn punctuator_lexeme(text: &[u8]) -> Lexeme
+pub(crate) fn punctuator_lexeme(text: &[u8]) -> Lexeme
     ensures { result ≡ token_lexeme text.now (punctuator_at punctuators text.now) }
 {
     match text {
@@ -89,7 +89,7 @@ pub fn punctuator_lexeme(text: &[u8]) -> Lexeme
 }
 
 /// The punctuator in front of a text that begins with a slash, where a slash divides.
-pub fn division_lexeme(text: &[u8]) -> Lexeme
+pub(crate) fn division_lexeme(text: &[u8]) -> Lexeme
     requires { slice_index text.now 0 ≡ 47 }
     ensures { result ≡ token_lexeme text.now (punctuator_at divisions text.now) }
 {

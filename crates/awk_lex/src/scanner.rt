@@ -167,7 +167,7 @@ fn slash_lexeme(text: &Bytes, at: usize, divides: bool) -> Result<Lexeme, AllocE
 }
 
 /// The lexeme at a place in a text, which isn't its end. A slash there divides or else opens an ERE.
-pub fn lexeme_at(
+pub(crate) fn lexeme_at(
     alloc: Global,
     text: &Bytes,
     at: usize,

@@ -13,7 +13,7 @@ const MOST_FIELDS: i128 = 16_777_216;
 
 /// A number or a count of fields that is assigned: from 0 up to 16,777,216,
 /// else `FieldNumber`.
-pub fn assigned_number(number: i128) -> Result<usize, RecordFault>
+pub(crate) fn assigned_number(number: i128) -> Result<usize, RecordFault>
     ensures { result ≡ assignable number }
 {
     if number < 0 || number > MOST_FIELDS {
@@ -24,7 +24,11 @@ pub fn assigned_number(number: i128) -> Result<usize, RecordFault>
 
 /// Fills `values` with the stretches of the text, which share its memory. The
 /// only error is `Memory`.
-pub fn cut_all(text: &Bytes, spans: &[Span], values: &mut Vec<Value>) -> Result<(), RecordFault>
+pub(crate) fn cut_all(
+    text: &Bytes,
+    spans: &[Span],
+    values: &mut Vec<Value>,
+) -> Result<(), RecordFault>
     requires { AreSpansOf text.now spans.now }
     ensures values { OnOk result (values.new.items ≡ inputs_of (stretches_at text.now spans.now)) }
     ensures memory { IfErr result (λ e. e ≡ RecordFault.Memory) }

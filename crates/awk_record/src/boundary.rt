@@ -117,7 +117,12 @@ fn paragraph_boundary(held: &[u8], known: usize, searched: usize, at_end: bool) 
 
 /// The boundary of the first record, if the input has ended behind the bytes
 /// at hand, or else if it broke, where so much is known of the separator.
-pub fn first_boundary(separator: &[u8], held: &[u8], progress: Progress, at_end: bool) -> Boundary
+pub(crate) fn first_boundary(
+    separator: &[u8],
+    held: &[u8],
+    progress: Progress,
+    at_end: bool,
+) -> Boundary
     requires skipped { progress.skipped ≤ length held.now }
     requires searched { progress.searched ≤ length held.now }
     requires known { IsKnown separator.now progress held.now }

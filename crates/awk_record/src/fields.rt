@@ -65,7 +65,7 @@ impl Fields {
 
     /// Takes a separator for the next text: it is read anew only where it isn't the one at hand.
     #[inline(always)]
-    pub fn take_separator(
+    pub(crate) fn take_separator(
         &mut self,
         alloc: Global,
         separator: &[u8],
@@ -84,7 +84,7 @@ impl Fields {
 
     /// Forgets those that were found.
     #[inline(always)]
-    pub fn restart(&mut self)
+    pub(crate) fn restart(&mut self)
         ensures separator { self.new.separator ≡ self.old.separator }
         ensures spans { self.new.spans.items ≡ [] }
         ensures rest { self.new.rest ≡ 0 }

@@ -46,14 +46,14 @@ impl ResumedSearch {
 
     /// Whether a search has come past some bytes.
     #[inline(always)]
-    pub fn is_begun(&self) -> bool
+    pub(crate) fn is_begun(&self) -> bool
         ensures { (result ≡ false) ↔ (self.now.progress ≡ nothing_known) }
     {
         self.progress.searched > 0 || self.progress.skipped > 0
     }
 
     /// How far the search for this separator has come: as far as this one, or it has still to begin.
-    pub fn progress_for(&self, separator: &[u8]) -> Progress
+    pub(crate) fn progress_for(&self, separator: &[u8]) -> Progress
         ensures known { (bytes : List ℕ) →
             IsKnown self.now.separator.items self.now.progress bytes → IsKnown separator.now result bytes }
         ensures skipped { result.skipped ≤ self.now.progress.skipped }
@@ -104,7 +104,7 @@ fn first_byte(byte: u8, bytes: &[u8], searched: usize) -> Option<usize>
 
 /// The first place of a word behind the first `front` bytes, counted from there. It doesn't stand among the first
 /// `searched` bytes, of which those are looked at once more with which it could begin.
-pub fn first_word(word: &[u8], bytes: &[u8], front: usize, searched: usize) -> Option<usize>
+pub(crate) fn first_word(word: &[u8], bytes: &[u8], front: usize, searched: usize) -> Option<usize>
     requires some { 0 < length word.now }
     requires front { front ≤ length bytes.now }
     requires within { searched ≤ length bytes.now }
@@ -118,7 +118,7 @@ pub fn first_word(word: &[u8], bytes: &[u8], front: usize, searched: usize) -> O
 }
 
 /// The first place of a separator of one or more bytes, which doesn't stand among the first `searched` bytes.
-pub fn first_separator(separator: &[u8], bytes: &[u8], searched: usize) -> Option<usize>
+pub(crate) fn first_separator(separator: &[u8], bytes: &[u8], searched: usize) -> Option<usize>
     requires some { 0 < length separator.now }
     requires within { searched ≤ length bytes.now }
     requires none { HasNoWord separator.now 0 searched bytes.now }
@@ -132,7 +132,7 @@ pub fn first_separator(separator: &[u8], bytes: &[u8], searched: usize) -> Optio
 }
 
 /// How many newlines stand in front, where so many are known.
-pub fn leading_newlines(bytes: &[u8], known: usize) -> usize
+pub(crate) fn leading_newlines(bytes: &[u8], known: usize) -> usize
     requires within { known ≤ length bytes.now }
     requires known { AreNewlines known bytes.now }
     ensures value { result ≡ newlines bytes.now }

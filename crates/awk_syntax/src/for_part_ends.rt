@@ -137,7 +137,7 @@ fn is_part(frame: &Frame) -> bool
 }
 
 /// Whether the frame on top of the stack waits for a part of a `for`, its first or its last.
-pub fn is_part_on(stack: &Vec<Frame>) -> bool
+pub(crate) fn is_part_on(stack: &Vec<Frame>) -> bool
     ensures { result ≡ is_part_on (stack_of stack.now.items) }
 {
     match stack.last() {
@@ -147,7 +147,7 @@ pub fn is_part_on(stack: &Vec<Frame>) -> bool
 }
 
 /// Behind a part of a `for`, by the token that stands there. (POSIX awk, Grammar)
-pub fn end_part(
+pub(crate) fn end_part(
     alloc: Global,
     next: NextToken,
     statement: Option<CheckedSimple>,

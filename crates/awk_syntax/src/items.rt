@@ -288,7 +288,7 @@ fn after_function_name(
 }
 
 /// Takes a token in an item.
-pub fn step_item(
+pub(crate) fn step_item(
     alloc: Global,
     state: ItemState,
     next: NextToken,

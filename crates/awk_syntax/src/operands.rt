@@ -92,7 +92,7 @@ fn after_name(name: &Bytes, in_print_list: bool) -> Result<Option<ParserState>, 
 }
 
 /// Before the `(` that opens a frame.
-pub fn before_parenthesis(
+pub(crate) fn before_parenthesis(
     alloc: Global,
     frame: Frame,
     in_print_list: bool,

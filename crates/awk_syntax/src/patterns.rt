@@ -30,7 +30,7 @@ fn check_pattern(alloc: Global, text: &[u8], line: u64) -> Result<(), Refusal>
 }
 
 /// Whether each ERE is a pattern within the limits. The refusal is that of the leftmost that isn't.
-pub fn check_patterns(alloc: Global, tokens: &[Token]) -> Result<(), Refusal>
+pub(crate) fn check_patterns(alloc: Global, tokens: &[Token]) -> Result<(), Refusal>
     ensures readable { OnOk result (AreReadable (kinds_of tokens.now)) }
     ensures refused { IfErr result (λ refusal. IsOutOfMemory refusal
         ⊎ IsLeftmostRefused refusal.code refusal.line tokens.now) }

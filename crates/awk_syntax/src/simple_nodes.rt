@@ -80,7 +80,7 @@ pub fn exit(value: Option<CheckedOptionalExpr>) -> Option<CheckedSimple>
 }
 
 /// `return`, with its value or without.
-pub fn return_statement(value: Option<CheckedOptionalExpr>) -> Option<CheckedSimple>
+pub(crate) fn return_statement(value: Option<CheckedOptionalExpr>) -> Option<CheckedSimple>
     ensures { checked_simple result ≡ over_one max_height height_of_simple t.Return (checked_optional_expr value) }
 {
     let value = value?;

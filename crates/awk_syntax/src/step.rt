@@ -84,7 +84,7 @@ fn after_return_word(
 }
 
 /// Takes a token in a statement.
-pub fn step_statement(
+pub(crate) fn step_statement(
     alloc: Global,
     state: StatementState,
     next: NextToken,

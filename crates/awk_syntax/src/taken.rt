@@ -39,7 +39,7 @@ pub fn begin(
 }
 
 /// A node begins, and a statement in it.
-pub fn begin_statement(
+pub(crate) fn begin_statement(
     frame: Frame,
     stack: &mut Vec<Frame>,
 ) -> Result<Option<ParserState>, AllocError>
@@ -51,7 +51,7 @@ pub fn begin_statement(
 }
 
 /// A statement begins whose body follows.
-pub fn begin_body(
+pub(crate) fn begin_body(
     alloc: Global,
     body: BodyFrame,
     stack: &mut Vec<Frame>,

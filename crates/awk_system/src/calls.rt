@@ -9,7 +9,7 @@ use awk_world::WorldFault;
 use std::io::{self, ErrorKind, Read, Write};
 
 /// Refused memory is told from every other failure.
-pub fn fault_of(error: io::Error) -> WorldFault
+pub(crate) fn fault_of(error: io::Error) -> WorldFault
     ensures { result ≡ WorldFault.Memory ↔ (error_kind error ≡ ErrorKind.OutOfMemory) }
 {
     match error.kind() {
@@ -19,7 +19,7 @@ pub fn fault_of(error: io::Error) -> WorldFault
 }
 
 /// A name or a command as a text. `Failed`: it is not UTF-8.
-pub fn text_of(bytes: &[u8]) -> Result<&str, WorldFault>
+pub(crate) fn text_of(bytes: &[u8]) -> Result<&str, WorldFault>
     ensures { MatchResult result (λ text. (text.now ≡ bytes.now) × IsUtf8 bytes.now)
         (λ fault. (fault ≡ WorldFault.Failed) × ¬ (IsUtf8 bytes.now)) }
 {
@@ -27,7 +27,7 @@ pub fn text_of(bytes: &[u8]) -> Result<&str, WorldFault>
 }
 
 /// One read, begun again where a signal interrupts it.
-pub fn read_from<R: Read>(reader: &mut R, into: &mut [u8]) -> Result<usize, WorldFault>
+pub(crate) fn read_from<R: Read>(reader: &mut R, into: &mut [u8]) -> Result<usize, WorldFault>
     ensures count { IfOk result (λ n. n ≤ length into.old) }
     ensures bytes { ReadConsumes (R.remaining reader.old) (R.remaining reader.new) result into.new }
 {
@@ -45,7 +45,7 @@ pub fn read_from<R: Read>(reader: &mut R, into: &mut [u8]) -> Result<usize, Worl
 }
 
 /// One write, begun again where a signal interrupts it.
-pub fn write_to<W: Write>(writer: &mut W, bytes: &[u8]) -> Result<usize, WorldFault>
+pub(crate) fn write_to<W: Write>(writer: &mut W, bytes: &[u8]) -> Result<usize, WorldFault>
     ensures count { IfOk result (λ n. n ≤ length bytes.now) }
     ensures bytes { WriteAppends (W.contents writer.old) (W.contents writer.new) result bytes.now }
 {
@@ -63,7 +63,7 @@ pub fn write_to<W: Write>(writer: &mut W, bytes: &[u8]) -> Result<usize, WorldFa
 }
 
 /// One flush, begun again where a signal interrupts it.
-pub fn flush_of<W: Write>(writer: &mut W) -> Result<(), WorldFault>
+pub(crate) fn flush_of<W: Write>(writer: &mut W) -> Result<(), WorldFault>
     ensures bytes { Keeps (W.contents writer.old) (W.contents writer.new) }
 {
     for _ in 0..u64::MAX {

@@ -33,7 +33,7 @@ fn shell(alloc: Global, command: &str) -> Result<Command, AllocError>
 }
 
 /// Starts a command. `Failed`: it can't be started, as where it holds a NUL.
-pub fn start<R: Processes>(
+pub(crate) fn start<R: Processes>(
     processes: &R,
     alloc: Global,
     command: &str,
@@ -49,7 +49,7 @@ pub fn start<R: Processes>(
 }
 
 /// One read of what a command writes.
-pub fn read_output<P: OpenProcess>(
+pub(crate) fn read_output<P: OpenProcess>(
     child: &mut Child<P>,
     into: &mut [u8],
 ) -> Result<usize, WorldFault>
@@ -62,7 +62,10 @@ pub fn read_output<P: OpenProcess>(
 }
 
 /// One write to what a command reads.
-pub fn write_input<P: OpenProcess>(child: &mut Child<P>, bytes: &[u8]) -> Result<usize, WorldFault>
+pub(crate) fn write_input<P: OpenProcess>(
+    child: &mut Child<P>,
+    bytes: &[u8],
+) -> Result<usize, WorldFault>
     ensures { IfOk result (λ n. n ≤ length bytes.now) }
 {
     match &mut child.stdin {
@@ -80,7 +83,7 @@ fn number_of(status: ExitStatus) -> i128
 
 /// Waits for the end of a command, and answers its number. Its pipes are closed first, so that one
 /// that reads to the end of its input, or that writes more than is read, comes to its end.
-pub fn wait_for<P: OpenProcess + Drop>(mut child: Child<P>) -> i128
+pub(crate) fn wait_for<P: OpenProcess + Drop>(mut child: Child<P>) -> i128
     ensures number { IsCommandNumber result }
     ensures told { IfSome (number_told child) (λ number. result ≡ number) }
 {

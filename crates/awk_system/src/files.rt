@@ -8,7 +8,7 @@ use std::fs::OpenOptions;
 
 /// How a file is opened to be written: it is made where it isn't there, and else emptied, or written to
 /// behind what it holds.
-pub fn options_for(mode: Mode) -> OpenOptions
+pub(crate) fn options_for(mode: Mode) -> OpenOptions
     ensures { result ≡ options_as_told mode }
 {
     let mut options = OpenOptions::new();

@@ -24,7 +24,11 @@ pub enum Opened<P: OpenProcess> {
 
 impl<P: OpenProcess + Drop> Opened<P> {
     /// One read. `Failed`: it is no input.
-    pub fn read<I: Read>(&mut self, stdin: &mut I, into: &mut [u8]) -> Result<usize, WorldFault>
+    pub(crate) fn read<I: Read>(
+        &mut self,
+        stdin: &mut I,
+        into: &mut [u8],
+    ) -> Result<usize, WorldFault>
         ensures count { IfOk result (λ n. n ≤ length into.old) }
         ensures standard { self.old ≡ Opened.StandardInput →
             ReadConsumes (I.remaining stdin.old) (I.remaining stdin.new) result into.new }
@@ -38,7 +42,7 @@ impl<P: OpenProcess + Drop> Opened<P> {
     }
 
     /// One write. `Failed`: it is no output.
-    pub fn write(&mut self, bytes: &[u8]) -> Result<usize, WorldFault>
+    pub(crate) fn write(&mut self, bytes: &[u8]) -> Result<usize, WorldFault>
         ensures { IfOk result (λ n. n ≤ length bytes.now) }
     {
         match self {
@@ -49,7 +53,7 @@ impl<P: OpenProcess + Drop> Opened<P> {
     }
 
     /// Whether it is an output on a terminal.
-    pub fn is_terminal(&self) -> bool
+    pub(crate) fn is_terminal(&self) -> bool
         ensures { is_command self.now ≡ true → result ≡ false }
     {
         match self {
@@ -60,7 +64,7 @@ impl<P: OpenProcess + Drop> Opened<P> {
     }
 
     /// Closes it, and answers the number of a command, once that has ended, and else 0.
-    pub fn close(self) -> i128
+    pub(crate) fn close(self) -> i128
         ensures number { IfSome (number_at_close self) (λ number. result ≡ number) }
         ensures command { IsCommandNumber result }
     {

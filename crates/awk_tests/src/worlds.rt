@@ -46,7 +46,7 @@ pub fn copy_of(alloc: Global, given: &Answer) -> Result<Answer, AllocError> {
 }
 
 /// An input breaks behind so many bytes.
-pub fn break_off(answer: &mut Answer, bytes: usize) {
+pub(crate) fn break_off(answer: &mut Answer, bytes: usize) {
     if let Answer::Input(input) = answer {
         input.bytes.truncate(bytes);
         input.ending = Ending::Break;
@@ -54,7 +54,7 @@ pub fn break_off(answer: &mut Answer, bytes: usize) {
 }
 
 /// An input is given in single bytes.
-pub fn cut_up(answer: &mut Answer) -> Result<(), AllocError> {
+pub(crate) fn cut_up(answer: &mut Answer) -> Result<(), AllocError> {
     if let Answer::Input(input) = answer {
         for end in 1..input.bytes.len() {
             input.piece_ends.push(end)?;
@@ -64,7 +64,7 @@ pub fn cut_up(answer: &mut Answer) -> Result<(), AllocError> {
 }
 
 /// How many bytes an input gives; other answers give none.
-pub fn len_of(answer: &Answer) -> usize {
+pub(crate) fn len_of(answer: &Answer) -> usize {
     match answer {
         Answer::Input(input) => input.bytes.len(),
         Answer::Output(_) | Answer::Closing(_) | Answer::Run(_) => 0,
@@ -83,7 +83,7 @@ pub fn outputs_of(alloc: Global, world: &ScriptWorld) -> Result<Vec<Vec<u8>>, Al
 }
 
 /// Whether an output was given this.
-pub fn was_given(world: &ScriptWorld, id: u64, bytes: &[u8]) -> Result<bool, AllocError> {
+pub(crate) fn was_given(world: &ScriptWorld, id: u64, bytes: &[u8]) -> Result<bool, AllocError> {
     Ok(world.received(id)?.as_slice() == bytes)
 }
 

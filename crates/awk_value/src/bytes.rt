@@ -232,7 +232,7 @@ impl Bytes {
     /// Copies these bytes to the front of the text's memory, where nothing else shares it, and it has room for so many and not for many
     /// more: whether they were copied. Then they are the text, which can grow there. Takes no memory.
     #[inline]
-    pub fn refill(&mut self, bytes: &[u8]) -> bool
+    pub(crate) fn refill(&mut self, bytes: &[u8]) -> bool
         ensures { self.new ≡ (if result then bytes.now else self.old) }
     {
         let Form::Shared(memory, start, end) = &mut self.form else {

@@ -122,7 +122,7 @@ fn place_of_run(answers: &[Answer]) -> Option<usize>
 
 // Takes the first answer that is listed for an input, and gives what it grants; `None` where the
 // input is refused.
-pub fn take_input(
+pub(crate) fn take_input(
     alloc: Global,
     answers: &mut Vec<Answer>,
     kind: InputKind,
@@ -164,7 +164,7 @@ fn grant(answer: InputAnswer, is_command: bool) -> Option<ScriptStream>
 
 // Takes the first answer that is listed for an output, and gives what it grants; `None` where the
 // output is refused.
-pub fn take_output(
+pub(crate) fn take_output(
     alloc: Global,
     answers: &mut Vec<Answer>,
     kind: OutputKind,
@@ -185,7 +185,7 @@ pub fn take_output(
 }
 
 // Takes the first number that is listed for a closing; where none is, it is 0.
-pub fn take_closing(answers: &mut Vec<Answer>) -> i128
+pub(crate) fn take_closing(answers: &mut Vec<Answer>) -> i128
     ensures number { result ≡ closing_number answers.old.items }
     ensures answers { answers.new.items ≡ without (closing_place answers.old.items) answers.old.items }
 {
@@ -199,7 +199,7 @@ pub fn take_closing(answers: &mut Vec<Answer>) -> i128
 }
 
 // Takes the first number that is listed for a run; where none is, it is 0.
-pub fn take_run(answers: &mut Vec<Answer>) -> i128
+pub(crate) fn take_run(answers: &mut Vec<Answer>) -> i128
     ensures number { result ≡ run_number answers.old.items }
     ensures answers { answers.new.items ≡ without (run_place answers.old.items) answers.old.items }
 {

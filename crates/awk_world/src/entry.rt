@@ -22,7 +22,7 @@ pub enum Entry {
 }
 
 // Adds an entry for which there is room.
-pub fn push_entry(log: &mut Vec<Entry>, entry: Entry)
+pub(crate) fn push_entry(log: &mut Vec<Entry>, entry: Entry)
     requires { vec_len log.old < vec_capacity log.old }
     ensures items { log.new.items ≡ log.old.items ++ entry ∷ [] }
     ensures room { vec_capacity log.old ≤ vec_capacity log.new }
@@ -31,7 +31,7 @@ pub fn push_entry(log: &mut Vec<Entry>, entry: Entry)
 }
 
 // Makes room for one more entry, and for so many closings.
-pub fn reserve_entry(log: &mut Vec<Entry>, closings: usize) -> Result<(), AllocError>
+pub(crate) fn reserve_entry(log: &mut Vec<Entry>, closings: usize) -> Result<(), AllocError>
     ensures items { log.new.items ≡ log.old.items }
     ensures room { OnOk result (vec_len log.new + (closings + 1) ≤ vec_capacity log.new) }
     ensures kept { vec_capacity log.old ≤ vec_capacity log.new }

@@ -45,7 +45,7 @@ impl PlannedFaults {
     }
 
     // Whether this call, which can answer `Memory`, is to answer it.
-    pub fn refuses_call(&mut self) -> bool
+    pub(crate) fn refuses_call(&mut self) -> bool
         ensures due { result ≡ is_due self.old.calls_before_refusal }
         ensures counted { self.new ≡ after_call self.old }
     {

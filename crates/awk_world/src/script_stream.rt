@@ -103,7 +103,7 @@ fn place_of(streams: &[ScriptStream], id: u64) -> Option<usize>
 
 // Whether the stream of this number is a command's.
 #[tactic(auto, using(crate::proofs::ScriptLemmas::stream_at_place))]
-pub fn is_of_command(streams: &[ScriptStream], id: u64) -> bool
+pub(crate) fn is_of_command(streams: &[ScriptStream], id: u64) -> bool
     ensures { result ≡ is_command_of (stream_under id (streams_of streams.now)) }
 {
     match place_of(streams, id) {

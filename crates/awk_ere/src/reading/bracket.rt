@@ -167,7 +167,10 @@ fn flip(set: &mut [bool; BYTE_COUNT])
 }
 
 /// A bracket behind its `[`, and what follows it. Its class is left in `set`.
-pub fn bracket_at<'a>(bytes: &'a [u8], set: &mut [bool; BYTE_COUNT]) -> Option<(Token, &'a [u8])>
+pub(crate) fn bracket_at<'a>(
+    bytes: &'a [u8],
+    set: &mut [bool; BYTE_COUNT],
+) -> Option<(Token, &'a [u8])>
     ensures found { option_map (λ r. (r.0, r.1.now)) result ≡ option_map seen_front (bracket_token bytes.now) }
     ensures set { (k : Bracket) (rest : List ℕ) → bracket_token bytes.now ≡ Some (atom (bracket k), rest) →
         set.new ≡ class_of (bracket_has k) }

@@ -65,7 +65,7 @@ fn named(byte: u8) -> Option<u8>
 /// The byte that an escape stands for, and what follows it: behind a backslash stand a letter that names a byte, one to
 /// three octal digits, the most that stand there, or a byte that is no letter and no digit and stands for itself
 /// (XBD 9.4 and awk, "Lexical Conventions"). `None` where anything else does.
-pub fn escape_at(bytes: &[u8]) -> Option<(u8, &[u8])>
+pub(crate) fn escape_at(bytes: &[u8]) -> Option<(u8, &[u8])>
     ensures { option_map (λ r. (r.0, r.1.now)) result ≡ option_map seen_escape (escape_at bytes.now) }
 {
     match bytes {

@@ -48,7 +48,7 @@ fn end_at(least: u16, bytes: &[u8]) -> Option<(Token, &[u8])>
 }
 
 /// An interval behind its `{`, and what follows it: a number, a number and a comma, or two numbers with a comma.
-pub fn interval_at(bytes: &[u8]) -> Option<(Token, &[u8])>
+pub(crate) fn interval_at(bytes: &[u8]) -> Option<(Token, &[u8])>
     ensures { option_map (λ r. (r.0, r.1.now)) result ≡ option_map seen_front (interval_token bytes.now) }
 {
     match number_at(bytes)? {
