@@ -20,3 +20,4 @@ mod BothNumbers
 mod Calls
 mod Lent
 mod PaddedEnd
+mod KeptKeys

@@ -10,6 +10,7 @@ ghost use Rattle.awk_value.specs.declared.fault.ValueFault.TheVariants.{Memory};
 use crate::hashing::Secret;
 use crate::{Value, ValueFault};
 use indexmap::IndexMap;
+use std::alloc::AllocError;
 use std::hash::Hash;
 
 /// A value, and how many keys were made before its own.
@@ -21,6 +22,10 @@ pub(crate) struct Entry {
 
 /// Entries by keys, hashed with a secret.
 pub(crate) type Entries<K> = IndexMap<K, Entry, Secret>;
+
+/// How many keys a map has at most whose hashes have no secret: so a program with few keys asks the system for no random
+/// bytes, which early in a boot may not be there yet.
+const MOST_WITHOUT_SECRET: usize = 64;
 
 /// The stamp of an entry at a place without a key.
 pub(crate) const GONE: u64 = u64::MAX;
@@ -35,6 +40,21 @@ impl Entry {
     }
 }
 
+/// Hashes a map's keys with a secret from now on. The fault is `Memory`; the entries stay as they are.
+#[inline(never)]
+fn take_secret<K: Eq + Hash + Drop>(entries: &mut Entries<K>) -> Result<(), AllocError>
+    ensures { IsUnchanged entries.old entries.new }
+{
+    let mut hashed = IndexMap::with_capacity_and_hasher(
+        *entries.allocator(),
+        entries.len(),
+        Secret::new(),
+    )?;
+    hashed.append(entries)?;
+    *entries = hashed;
+    Ok(())
+}
+
 /// Adds an entry to a map, where a new key goes last. The fault is `Memory`, and changes nothing.
 pub(crate) fn add_entry<K: Eq + Hash + Drop>(
     entries: &mut Entries<K>,
@@ -45,6 +65,9 @@ pub(crate) fn add_entry<K: Eq + Hash + Drop>(
     ensures unchanged { OnErr result (IsUnchanged entries.old entries.new) }
     ensures fault { IfErr result (λ fault. fault ≡ Memory) }
 {
+    if entries.len() >= MOST_WITHOUT_SECRET && entries.hasher().is_none() {
+        take_secret(entries)?;
+    }
     entries.insert(key, entry)?;
     Ok(())
 }

@@ -6,7 +6,10 @@ ghost use Rattle.std.specs.Hash.FoldHasher as folding;
 
 use std::hash::{BuildHasher, FoldHasher, Hasher};
 
-/// What begins and what ends each hash of a table's keys: 16 random bytes.
+/// What ends each hash where there is no secret: an odd number, as a secret's is.
+const KNOWN_FACTOR: u64 = 0x9E37_79B9_7F4A_7C15;
+
+/// What begins and what ends each hash of a table's keys: 16 random bytes, or what is the same in each process.
 #[derive(Clone, Copy)]
 pub(crate) struct Secret {
     first: FoldHasher,
@@ -21,6 +24,20 @@ pub(crate) struct SecretHasher {
 }
 
 impl Secret {
+    /// None, for maps of so few keys that nobody gains by choosing them. Asks nothing of the system.
+    pub(crate) fn none() -> Secret {
+        Secret {
+            first: FoldHasher::default(),
+            factor: KNOWN_FACTOR,
+        }
+    }
+
+    /// Whether it is none.
+    #[inline(always)]
+    pub(crate) fn is_none(&self) -> bool {
+        self.factor == KNOWN_FACTOR
+    }
+
     /// A new one. Where the system has no random bytes to give, it is the same in each process.
     pub(crate) fn new() -> Secret {
         let mut bytes = [0; 16];

@@ -68,7 +68,7 @@ impl Table {
     pub fn new(alloc: Global) -> Table
         ensures { result ≡ [] }
     {
-        let secret = Secret::new();
+        let secret = Secret::none();
         Table {
             numbers: Numbers::new(alloc, secret),
             shorts: IndexMap::with_hasher(alloc, secret),
