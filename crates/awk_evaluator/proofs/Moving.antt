@@ -19,12 +19,14 @@ use Rattle.awk_storage.specs.declared.position.Array.{Array}
 use Rattle.awk_storage.specs.declared.position.Variable.{Variable}
 use Rattle.awk_storage.specs.Positions.{put_variable}
 use Rattle.awk_storage.specs.Forms.{keys_of_array}
+use Rattle.awk_resolve.specs.declared.node.Ending.{Ending}
+use Rattle.awk_resolve.specs.declared.node.Ending.TheVariants as ending
 use Rattle.awk_resolve.specs.declared.node.Node.{Node}
 use Rattle.awk_resolve.specs.declared.node.Node.TheVariants as n
 use Rattle.awk_resolve.specs.declared.node.ValueNode.{ValueNode}
 use Rattle.awk_resolve.specs.declared.node.EffectNode.{EffectNode}
 use Rattle.awk_resolve.specs.declared.plan.Plan.{Plan}
-use Rattle.awk_resolve.specs.Nodes.{Tables, Cont, first, second, value_of, popped, effect_of, dropped, walk_values, keys_left, next_key_by}
+use Rattle.awk_resolve.specs.Nodes.{Tables, Cont, first, second, value_of, popped, effect_of, dropped, walk_values, keys_left, next_key_by, halt_by}
 use Rattle.awk_resolve.proofs.Listed.{node_at, no_node_at}
 use Rattle.awk_runtime.specs.declared.runtime.Runtime.{Runtime}
 use Rattle.awk_runtime.specs.Simulation.{IsReady, SimulatesLogged, Simulates, Changes, Spends}
@@ -374,11 +376,9 @@ module _ {is_logged : Type 0} {plan : Plan} where
     };
   }) same why
 
-  pub next_stops : {m m' : Machine} {k : WorldState} → m'.runtime ≡ m.runtime → m'.halt ≡ halt.Next → Moves is_logged plan (AtNode n.Next) m k move.Halted m' k
-  next_stops same why = stops halt.Next n.Next (λ tables ds b vs. refl) refl same why
-
-  pub exit_stops : {m m' : Machine} {k : WorldState} → m'.runtime ≡ m.runtime → m'.halt ≡ halt.Exit → Moves is_logged plan (AtNode n.Exit) m k move.Halted m' k
-  exit_stops same why = stops halt.Exit n.Exit (λ tables ds b vs. refl) refl same why
+  pub ending_stops : {m m' : Machine} {k : WorldState} (way : Ending) → m'.runtime ≡ m.runtime → m'.halt ≡ halt_by way → Moves is_logged plan (AtNode (n.Stop way)) m k move.Halted m' k
+  ending_stops ending.Next same why = stops halt.Next (n.Stop ending.Next) (λ tables ds b vs. refl) refl same why
+  ending_stops ending.Exit same why = stops halt.Exit (n.Stop ending.Exit) (λ tables ds b vs. refl) refl same why
 
   pub returns_value : {m m' : Machine} {k : WorldState} {to : Move} → GivesBack (first m.operands.values) m to m' → Moves is_logged plan (AtNode n.Return) m k to m' k
   returns_value g = gives_back refl refl refl (λ tables ds b. refl) g

@@ -232,10 +232,7 @@ impl Machine {
             ValueNode::Split(array, by) => self.split(*array, *by),
             ValueNode::Substitute(all, ere, place) => self.substitute(*all, *ere, *place),
             ValueNode::Getline(source, place) => self.getline(world, *source, *place),
-            ValueNode::Close => self.close(world),
-            ValueNode::System => self.system(world),
-            ValueNode::FlushAll => self.flush_all(world),
-            ValueNode::Flush => self.flush(world),
+            ValueNode::Outside(call) => self.call_outside(world, *call),
             ValueNode::SubstituteIn(_) => unreachable!(),
             ValueNode::Call(_, _) => unreachable!(),
         }

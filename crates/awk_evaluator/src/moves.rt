@@ -4,13 +4,13 @@ ghost use Rattle.std.specs.Prelude.{◌≡◌, ◌<◌, if◌then◌else◌, Som
 ghost use Rattle.std.specs.Option.{option_map};
 ghost use Rattle.awk_runtime.specs.Simulation.{IsReady};
 ghost use Rattle.awk_value.specs.declared.value.Value.TheVariants.{Nothing};
-ghost use Rattle.awk_resolve.specs.Nodes.{CallsFit, first};
+ghost use Rattle.awk_resolve.specs.Nodes.{CallsFit, first, halt_by};
 ghost use Rattle.awk_resolve.specs.Plans.{array_parameters};
 ghost use Rattle.awk_evaluator.specs.Rest.{IsSound, AtNode};
 ghost use Rattle.awk_evaluator.specs.Moves.{IsRare, Moves, GivesBack, onward, upward, toward};
 
 use crate::machine::{Machine, Move};
-use awk_resolve::node::Node;
+use awk_resolve::node::{Ending, Node};
 use awk_resolve::{Function, Plan};
 use awk_semantics::Halt;
 use awk_streams::World;
@@ -84,6 +84,16 @@ pub(crate) fn toward(holds: Option<bool>, here: u32, other: u32) -> Move
     match holds {
         Some(holds) => Move::On(chosen(holds, here, other)),
         None => Move::Halted,
+    }
+}
+
+/// What ends a run of the rules, as a statement does.
+fn halt_of(ending: Ending) -> Halt
+    ensures { result ≡ halt_by ending }
+{
+    match ending {
+        Ending::Next => Halt::Next,
+        Ending::Exit => Halt::Exit,
     }
 }
 
@@ -164,8 +174,7 @@ impl Machine {
                 self.leave_walk();
                 Move::On(*next)
             }
-            Node::Next => self.halt_by(Halt::Next),
-            Node::Exit => self.halt_by(Halt::Exit),
+            Node::Stop(ending) => self.halt_by(halt_of(*ending)),
             Node::Value(_, _) | Node::Effect(_, _) | Node::Test(_, _) => unreachable!(),
             Node::CompareWith(_, _, _, _) | Node::Compare(_, _, _, _, _) => unreachable!(),
             Node::Match(_, _, _, _) | Node::TestInside(_, _, _) => unreachable!(),

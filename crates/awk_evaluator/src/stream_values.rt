@@ -8,13 +8,13 @@ ghost use Rattle.awk_streams.specs.Flushes.{FlushesCalled};
 ghost use Rattle.awk_storage.specs.Forms.{named_getline_at};
 ghost use Rattle.awk_runtime.specs.Simulation.{IsReady, Follows};
 ghost use Rattle.awk_resolve.specs.Nodes.{first, place_operands};
-ghost use Rattle.awk_resolve.specs.declared.node.ValueNode.TheVariants.{Getline, Close, System, FlushAll, Flush};
+ghost use Rattle.awk_resolve.specs.declared.node.ValueNode.TheVariants.{Getline, Outside};
 ghost use Rattle.awk_resolve.specs.declared.node.Source.TheVariants.{Main, File, Command};
 ghost use Rattle.awk_evaluator.specs.Moves.{Evaluates};
 
 use crate::machine::Machine;
 use crate::values::operand_count;
-use awk_resolve::node::Source;
+use awk_resolve::node::{OutsideCall, Source};
 use awk_semantics::Halt;
 use awk_storage::Place;
 use awk_streams::{InputKind, World};
@@ -131,12 +131,30 @@ impl Machine {
             .named_getline_at(world, InputKind::Command, &command, place, &top)
     }
 
-    /// Closes each stream whose name an operand is. (POSIX awk, Input/Output and General Functions: close)
-    #[inline(never)]
-    pub(crate) fn close<W: World>(&mut self, world: &mut W) -> Result<Value, Halt>
+    /// Calls a built-in function that reaches the outside.
+    pub(crate) fn call_outside<W: World>(
+        &mut self,
+        world: &mut W,
+        call: OutsideCall,
+    ) -> Result<Value, Halt>
         requires ready { IsReady W.is_logged (W.state world.old) self.old.runtime.streams }
         ensures ready { IsReady W.is_logged (W.state world.new) self.new.runtime.streams }
-        ensures evaluates { Evaluates W.is_logged Close self.old (W.state world.old) result self.new (W.state world.new) }
+        ensures evaluates { Evaluates W.is_logged (Outside call) self.old (W.state world.old) result self.new (W.state world.new) }
+    {
+        match call {
+            OutsideCall::Close => self.close(world),
+            OutsideCall::System => self.system(world),
+            OutsideCall::FlushAll => self.flush_all(world),
+            OutsideCall::Flush => self.flush(world),
+        }
+    }
+
+    /// Closes each stream whose name an operand is. (POSIX awk, Input/Output and General Functions: close)
+    #[inline(never)]
+    fn close<W: World>(&mut self, world: &mut W) -> Result<Value, Halt>
+        requires ready { IsReady W.is_logged (W.state world.old) self.old.runtime.streams }
+        ensures ready { IsReady W.is_logged (W.state world.new) self.new.runtime.streams }
+        ensures evaluates { Evaluates W.is_logged (Outside OutsideCall.Close) self.old (W.state world.old) result self.new (W.state world.new) }
     {
         let name = self.operands.pop();
         Ok(Value::Number(self.runtime.close_named(world, &name)?))
@@ -144,10 +162,10 @@ impl Machine {
 
     /// Runs the command that an operand is. (POSIX awk, Input/Output and General Functions: system)
     #[inline(never)]
-    pub(crate) fn system<W: World>(&mut self, world: &mut W) -> Result<Value, Halt>
+    fn system<W: World>(&mut self, world: &mut W) -> Result<Value, Halt>
         requires ready { IsReady W.is_logged (W.state world.old) self.old.runtime.streams }
         ensures ready { IsReady W.is_logged (W.state world.new) self.new.runtime.streams }
-        ensures evaluates { Evaluates W.is_logged System self.old (W.state world.old) result self.new (W.state world.new) }
+        ensures evaluates { Evaluates W.is_logged (Outside OutsideCall.System) self.old (W.state world.old) result self.new (W.state world.new) }
     {
         let command = self.operands.pop();
         Ok(Value::Number(self.runtime.run_command(world, &command)?))
@@ -155,10 +173,10 @@ impl Machine {
 
     /// Flushes all outputs: each has then received what was printed to it.
     #[inline(never)]
-    pub(crate) fn flush_all<W: World>(&mut self, world: &mut W) -> Result<Value, Halt>
+    fn flush_all<W: World>(&mut self, world: &mut W) -> Result<Value, Halt>
         requires ready { IsReady W.is_logged (W.state world.old) self.old.runtime.streams }
         ensures ready { IsReady W.is_logged (W.state world.new) self.new.runtime.streams }
-        ensures evaluates { Evaluates W.is_logged FlushAll self.old (W.state world.old) result self.new (W.state world.new) }
+        ensures evaluates { Evaluates W.is_logged (Outside OutsideCall.FlushAll) self.old (W.state world.old) result self.new (W.state world.new) }
         ensures brings { OnOk result (W.is_logged → BringsAll (W.state world.old) self.old.runtime.streams (W.state world.new) self.new.runtime.streams) }
     {
         self.runtime.flush_all(world)?;
@@ -167,10 +185,10 @@ impl Machine {
 
     /// Flushes each open output whose name an operand is: it has then received what was printed to it.
     #[inline(never)]
-    pub(crate) fn flush<W: World>(&mut self, world: &mut W) -> Result<Value, Halt>
+    fn flush<W: World>(&mut self, world: &mut W) -> Result<Value, Halt>
         requires ready { IsReady W.is_logged (W.state world.old) self.old.runtime.streams }
         ensures ready { IsReady W.is_logged (W.state world.new) self.new.runtime.streams }
-        ensures evaluates { Evaluates W.is_logged Flush self.old (W.state world.old) result self.new (W.state world.new) }
+        ensures evaluates { Evaluates W.is_logged (Outside OutsideCall.Flush) self.old (W.state world.old) result self.new (W.state world.new) }
         ensures flushes { OnOk result (W.is_logged → (is_open : Bool) × FlushesCalled (str_of (first self.old.operands.values)) (W.state world.old)
             self.old.runtime.streams is_open (W.state world.new) self.new.runtime.streams) }
     {

@@ -21,6 +21,7 @@ use Rattle.awk_semantics.proofs.KeepsForms.{keeps_eval, keeps_field_separator}
 use Rattle.awk_storage.specs.declared.position.Array.{Array}
 use Rattle.awk_storage.specs.definitions.Positions.{number_at}
 use Rattle.awk_storage.specs.definitions.Forms.{fill_at, match_in, split_with}
+use Rattle.awk_resolve.specs.declared.node.OutsideCall.TheVariants as outside
 use Rattle.awk_resolve.specs.declared.builder.Builder.{Builder}
 use Rattle.awk_resolve.specs.declared.node.ValueNode.TheVariants as v
 use Rattle.awk_resolve.specs.declared.node.SplitBy.TheVariants as by
@@ -207,11 +208,11 @@ module _ {kinds : ProgramKinds} {parameters : List FormalParameter} where
 
   -- `fflush`
 
-  pub flush_all_lowered : {a b : Builder} {i next : ℕ} → Stands next a → Pushes a b (n.Value v.FlushAll next) i → Builds kinds parameters a b i (Evaluate (BuiltIn w.Fflush Nil) next)
+  pub flush_all_lowered : {a b : Builder} {i next : ℕ} → Stands next a → Pushes a b (n.Value (v.Outside outside.FlushAll) next) i → Builds kinds parameters a b i (Evaluate (BuiltIn w.Fflush Nil) next)
   unfolding eval apply_built_in
   flush_all_lowered h q = evaluates (node h q) (λ vs. refl) (BuiltIn w.Fflush Nil) (λ p g m vs s l. sym (none_left p.functions [] (λ as'. apply_built_in w.Fflush as') s))
 
-  pub flush_lowered : {a b c : Builder} {i j next : ℕ} {e : Expr} → Stands next a → Pushes a b (n.Value v.Flush next) j → Builds kinds parameters b c i (Evaluate e j) → Builds kinds parameters a c i (Evaluate (BuiltIn w.Fflush (Cons e Nil)) next)
+  pub flush_lowered : {a b c : Builder} {i j next : ℕ} {e : Expr} → Stands next a → Pushes a b (n.Value (v.Outside outside.Flush) next) j → Builds kinds parameters b c i (Evaluate e j) → Builds kinds parameters a c i (Evaluate (BuiltIn w.Fflush (Cons e Nil)) next)
   unfolding eval apply_built_in
   flush_lowered {e = e} h q r =
       evaluates (value_first (λ vs. vs) (node h q) e r (λ u vs. refl)) (λ vs. refl) (BuiltIn w.Fflush (Cons e Nil)) (λ p g m vs s l.

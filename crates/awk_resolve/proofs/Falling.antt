@@ -34,6 +34,8 @@ use Rattle.awk_storage.specs.declared.position.Place.{Place}
 use Rattle.awk_storage.specs.declared.position.Place.TheVariants as place
 use Rattle.awk_storage.specs.definitions.Positions.{newest_locals, with_local_at, read_local, put_local, read_slot, put_slot, number_at, read_element_of, store_element_of, read_variable, put_variable, read_at, store_at, assign_at, assign_by_at, post_increment_at}
 use Rattle.awk_storage.specs.definitions.Forms.{contains_at, delete_at, clear_at, count_elements_at, keys_of_array, fill_at, match_in, split_with, assign_exchange_at, substitute_at, receive_at, receive_main_at, main_getline_at, receive_named_at, named_getline_at}
+use Rattle.awk_resolve.specs.declared.node.OutsideCall.{OutsideCall}
+use Rattle.awk_resolve.specs.declared.node.OutsideCall.TheVariants as outside
 use Rattle.awk_resolve.specs.declared.node.ArgumentForm.{ArgumentForm}
 use Rattle.awk_lex.specs.declared.token.AssignmentOperator.{AssignmentOperator}
 use Rattle.awk_grammar.specs.declared.tree.BinaryOperator.{BinaryOperator}
@@ -50,7 +52,7 @@ use Rattle.awk_resolve.specs.declared.node.ValueNode.{ValueNode}
 use Rattle.awk_resolve.specs.declared.node.ValueNode.TheVariants as v
 use Rattle.awk_resolve.specs.declared.node.EffectNode.{EffectNode}
 use Rattle.awk_resolve.specs.declared.node.EffectNode.TheVariants as e
-use Rattle.awk_resolve.specs.definitions.Nodes.{operand_value, operated_with, operated_on, operand_values, key_value, assign_variable, append_to, append_operands_at, append_operands, append_by_step, print_operands, assign_target, raise_target, update, increment, Tables, first, second, taken, given_by, call_at, substitute_by, substitute, substitute_in, getline_by, value_of, target_by, effect_of}
+use Rattle.awk_resolve.specs.definitions.Nodes.{operand_value, operated_with, operated_on, operand_values, key_value, assign_variable, append_to, append_operands_at, append_operands, append_by_step, print_operands, assign_target, raise_target, update, increment, Tables, first, second, taken, given_by, call_at, substitute_by, substitute, substitute_in, getline_by, value_of, target_by, effect_of, outside_value}
 
 pub record Falls {A : Type 0} (m : Run A) : Type 0 where
   pub falls : (s : State) → (m s).state.steps ≤ s.steps
@@ -290,6 +292,12 @@ module _ (tables : Tables) where
     call_falls : (f : List ℕ) (fs : List ArgumentForm) (vs : List Value) → Falls (call_at functions f fs vs)
     call_falls f fs vs = then_falls _ (given_falls fs vs) (λ given. then_falls _ (kept_falls (keeps_check_height (functions.height f))) (λ _. then_falls _ (kept_falls keeps_spend) (λ _. kept_falls (calls f given))))
 
+    outside_falls : (call : OutsideCall) (vs : List Value) → Falls (outside_value call vs)
+    outside_falls outside.Close vs = then_falls _ (kept_falls (keeps_close_named (str_of (first vs)))) (λ k. lift_falls _)
+    outside_falls outside.System vs = then_falls _ (kept_falls (keeps_run_command (str_of (first vs)))) (λ k. lift_falls _)
+    outside_falls outside.FlushAll vs = kept_falls keeps_flush_outputs
+    outside_falls outside.Flush vs = then_falls _ (kept_falls (keeps_flush_named (str_of (first vs)))) (λ k. lift_falls _)
+
     pub value_falls : (x : ValueNode) (vs : List Value) → Falls (value_of tables functions x vs)
     value_falls (v.Put a) vs = operand_falls tables.names a
     value_falls (v.Matches a i) vs = then_falls _ (operand_falls tables.names a) (λ x. lift_falls _)
@@ -324,10 +332,7 @@ module _ (tables : Tables) where
     value_falls (v.Substitute all pattern p) vs = substitute_falls all pattern p vs
     value_falls (v.SubstituteIn x) vs = substitute_in_falls x.all x.ere x.replacement x.variable
     value_falls (v.Getline x p) vs = getline_falls x p vs
-    value_falls v.Close vs = then_falls _ (kept_falls (keeps_close_named (str_of (first vs)))) (λ k. lift_falls _)
-    value_falls v.System vs = then_falls _ (kept_falls (keeps_run_command (str_of (first vs)))) (λ k. lift_falls _)
-    value_falls v.FlushAll vs = kept_falls keeps_flush_outputs
-    value_falls v.Flush vs = then_falls _ (kept_falls (keeps_flush_named (str_of (first vs)))) (λ k. lift_falls _)
+    value_falls (v.Outside call) vs = outside_falls call vs
     value_falls (v.Call f fs) vs = call_falls _ fs.items _
 
     pub effect_falls : (x : EffectNode) (vs : List Value) → Falls (effect_of functions x vs)

@@ -64,8 +64,7 @@ module _ (tables : Tables) (functions : Functions) (calls : CallsKeep functions)
     made_agrees f g e (node.TakeKey x k) vs s low = later_low _ _ s n (put_variable_falls tables.names x (second vs)) low (λ _ t h. e k (value.Number (pos (keys_left (first vs) - 1)) ∷ drop 2 vs) t h)
     made_agrees f g e (node.LeaveWalk k) vs s low = e k _ s low
     made_agrees f g e node.Return vs s low = refl
-    made_agrees f g e node.Next vs s low = refl
-    made_agrees f g e node.Exit vs s low = refl
+    made_agrees f g e (node.Stop ending) vs s low = refl
     made_agrees f g e node.End vs s low = refl
 
     -- lists that agree place by place

@@ -61,8 +61,7 @@ module _ (tables : Tables) (functions : Functions) (again : ℕ → Cont) where
   made_alike f g k same (n.TakeKey x i) h = λ j vs. put_variable tables.names x (second vs) >>= λ _. same i h j (value.Number (pos (keys_left (first vs) - 1)) ∷ drop 2 vs)
   made_alike f g k same (n.LeaveWalk i) h = λ j vs. same i h j (drop (suc (keys_left (first vs))) vs)
   made_alike f g k same n.Return h = refl
-  made_alike f g k same n.Next h = refl
-  made_alike f g k same n.Exit h = refl
+  made_alike f g k same (n.Stop ending) h = refl
   made_alike f g k same n.End h = refl
 
   kept : (done : List Cont) (nodes : List Node) (i : ℕ) → i < length done → at_place (conts done nodes) i ≡ at_place done i

@@ -14,6 +14,7 @@ use Rattle.awk_semantics.specs.definitions.Primitives.{spend, set_status, delete
 use Rattle.awk_semantics.specs.definitions.Streams.{close_main}
 use Rattle.awk_semantics.specs.definitions.Semantics.{Functions, choose, eval, key_of, printed_values, target_of, print_by, exec_simple, exec_part, goes_on}
 use Rattle.awk_semantics.proofs.KeepsForms.{keeps_spend, keeps_eval}
+use Rattle.awk_resolve.specs.declared.node.Ending.TheVariants as ending
 use Rattle.awk_resolve.specs.declared.node.Node.TheVariants as n
 use Rattle.awk_resolve.specs.declared.node.EffectNode.TheVariants as e
 use Rattle.awk_resolve.specs.declared.node.Operand.TheVariants as operand
@@ -98,14 +99,14 @@ module _ {kinds : ProgramKinds} {parameters : List FormalParameter} where
       (λ y g m vs s i. evaluated q y g m vs s i (λ w. place_in y m exits.next vs) (λ w t k. dropped_at o y (grows q.extends.grows g) m w vs t))
       (λ functions at vs s. simple_then functions (leave_by exits at vs) s (Expression x) ∙ expression_then functions (leave_by exits at vs) s x)
 
-  pub next_built : {a b c : Builder} {exits : Exits} {i j : ℕ} → Pushes a b n.Next i → Pushes b c (n.Effect e.Spend i) j → Builds kinds parameters a c j (Execute (Simple Next) exits)
+  pub next_built : {a b c : Builder} {exits : Exits} {i j : ℕ} → Pushes a b (n.Stop ending.Next) i → Pushes b c (n.Effect e.Spend i) j → Builds kinds parameters a c j (Execute (Simple Next) exits)
   next_built {exits = exits} p r =
       let o = placed p tt in
       stepped (simply Next exits) (λ functions at vs. lift (Err halt.Next)) o.extends r o.below
       (λ y g m vs s i. at_once (o.is y g m) vs s)
       (λ functions at vs s. simple_then functions (leave_by exits at vs) s Next ∙ next_then functions (leave_by exits at vs) s)
 
-  pub next_file_built : {a b c d : Builder} {exits : Exits} {i j k : ℕ} → Pushes a b n.Next k → Pushes b c (n.Effect e.EndInput k) i → Pushes c d (n.Effect e.Spend i) j → Builds kinds parameters a d j (Execute (Simple NextFile) exits)
+  pub next_file_built : {a b c d : Builder} {exits : Exits} {i j k : ℕ} → Pushes a b (n.Stop ending.Next) k → Pushes b c (n.Effect e.EndInput k) i → Pushes c d (n.Effect e.Spend i) j → Builds kinds parameters a d j (Execute (Simple NextFile) exits)
   next_file_built {exits = exits} p q r =
       let o = placed p tt in
       let u = placed q o.below in
@@ -125,14 +126,14 @@ module _ {kinds : ProgramKinds} {parameters : List FormalParameter} where
       (λ y g m vs s i. refl)
       (λ functions at vs s. simple_then functions (leave_by exits at vs) s Continue ∙ continue_then functions (leave_by exits at vs) s)
 
-  pub exit_built : {a b c : Builder} {exits : Exits} {i j : ℕ} → Pushes a b n.Exit i → Pushes b c (n.Effect e.Spend i) j → Builds kinds parameters a c j (Execute (Simple (Exit NoExpr)) exits)
+  pub exit_built : {a b c : Builder} {exits : Exits} {i j : ℕ} → Pushes a b (n.Stop ending.Exit) i → Pushes b c (n.Effect e.Spend i) j → Builds kinds parameters a c j (Execute (Simple (Exit NoExpr)) exits)
   exit_built {exits = exits} p r =
       let o = placed p tt in
       stepped (simply (Exit NoExpr) exits) (λ functions at vs. lift (Err halt.Exit)) o.extends r o.below
       (λ y g m vs s i. at_once (o.is y g m) vs s)
       (λ functions at vs s. simple_then functions (leave_by exits at vs) s (Exit NoExpr) ∙ exit_then functions (leave_by exits at vs) s)
 
-  pub exit_with_built : {a b c d f : Builder} {x : Expr} {exits : Exits} {i j k l : ℕ} → Pushes a b n.Exit k → Pushes b c (n.Effect e.SetStatus k) l → Builds kinds parameters c d i (Evaluate x l) → Pushes d f (n.Effect e.Spend i) j
+  pub exit_with_built : {a b c d f : Builder} {x : Expr} {exits : Exits} {i j k l : ℕ} → Pushes a b (n.Stop ending.Exit) k → Pushes b c (n.Effect e.SetStatus k) l → Builds kinds parameters c d i (Evaluate x l) → Pushes d f (n.Effect e.Spend i) j
       → Builds kinds parameters a f j (Execute (Simple (Exit (AnExpr x))) exits)
   exit_with_built {x = x} {exits = exits} {k = k} stop set q r =
       let o = placed stop tt in

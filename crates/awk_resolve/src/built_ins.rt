@@ -10,7 +10,7 @@ ghost use Rattle.awk_resolve.specs.support.Scopes.{Builds, LowersValue};
 use crate::builder::{Builder, next_number};
 use crate::calls::name_in;
 use crate::excluded::no_such_call;
-use crate::node::{Exchange, SplitBy, ValueNode};
+use crate::node::{Exchange, OutsideCall, SplitBy, ValueNode};
 use crate::readings::is_read_behind;
 use crate::scope::Scope;
 use awk_grammar::tree::Expr;
@@ -55,8 +55,8 @@ fn strict_node(function: BuiltIn, count: u32) -> ValueNode
     ensures { result ≡ strict_node function count }
 {
     match function {
-        BuiltIn::Close => ValueNode::Close,
-        BuiltIn::System => ValueNode::System,
+        BuiltIn::Close => ValueNode::Outside(OutsideCall::Close),
+        BuiltIn::System => ValueNode::Outside(OutsideCall::System),
         _ => ValueNode::Apply(function, count),
     }
 }
@@ -116,9 +116,9 @@ impl Builder {
         ensures { IfOk result (λ place. Builds scope.now self.old self.new place (Evaluate (tree.BuiltIn BuiltIn.Fflush (exprs_of list.now)) next)) }
     {
         match list {
-            [] => self.push_value(ValueNode::FlushAll, next),
+            [] => self.push_value(ValueNode::Outside(OutsideCall::FlushAll), next),
             [name] => {
-                let flush = self.push_value(ValueNode::Flush, next)?;
+                let flush = self.push_value(ValueNode::Outside(OutsideCall::Flush), next)?;
                 self.lower(scope, name, flush)
             }
             _ => Err(no_such_call(BuiltIn::Fflush, list.len()).unwrap()),

@@ -65,6 +65,24 @@ pub struct Exchange {
     pub variable: Option<Variable>,
 }
 
+/// A built-in function that reaches the outside, beside `getline`.
+#[derive(Clone, Copy)]
+pub enum OutsideCall {
+    Close,
+    System,
+    /// Flushes all outputs.
+    FlushAll,
+    /// Flushes each output whose name is a value.
+    Flush,
+}
+
+/// As which statement a node ends all calls.
+#[derive(Clone, Copy)]
+pub enum Ending {
+    Next,
+    Exit,
+}
+
 /// What takes values off the stack and puts one on it. The operand that was evaluated last is the topmost.
 #[derive(Drop)]
 pub enum ValueNode {
@@ -115,12 +133,8 @@ pub enum ValueNode {
     SubstituteIn(Exchange),
     /// `getline`, to a place or to the record.
     Getline(Source, Option<Place>),
-    Close,
-    System,
-    /// Flushes all outputs.
-    FlushAll,
-    /// Flushes each output whose name is a value.
-    Flush,
+    /// A built-in function that reaches the outside.
+    Outside(OutsideCall),
     /// A call of a function of the program, by its number.
     Call(u32, Vec<ArgumentForm>),
 }
@@ -182,9 +196,7 @@ pub enum Node {
     /// Takes the keys that are left, and their count, off the stack.
     LeaveWalk(u32),
     Return,
-    /// Ends as `next` does.
-    Next,
-    /// Ends as `exit` does.
-    Exit,
+    /// Ends all calls.
+    Stop(Ending),
     End,
 }

@@ -10,7 +10,7 @@ ghost use Rattle.awk_resolve.specs.support.Printed.{listed};
 ghost use Rattle.awk_resolve.specs.support.Scopes.{Builds, LowersPrint};
 
 use crate::builder::{Builder, Exits, next_number};
-use crate::node::{EffectNode, Node};
+use crate::node::{EffectNode, Ending, Node};
 use crate::scope::Scope;
 use awk_grammar::tree::{Expr, Output, PrintForm, PrintList, SimpleStatement};
 use awk_value::{Bytes, Value};
@@ -157,7 +157,7 @@ impl Builder {
     fn lower_next_file(&mut self, scope: &Scope, exits: Exits) -> Result<u32, AllocError>
         ensures { IfOk result (λ place. Builds scope.now self.old self.new place (Execute (Simple NextFile) exits)) }
     {
-        let stop = self.push(Node::Next)?;
+        let stop = self.push(Node::Stop(Ending::Next))?;
         let end = self.push(Node::Effect(EffectNode::EndInput, stop))?;
         self.step(end)
     }
@@ -172,7 +172,7 @@ impl Builder {
         requires { ExitsStand exits self.old }
         ensures { IfOk result (λ place. Builds scope.now self.old self.new place (Execute (Simple (Exit (optional_expr_of e.now))) exits)) }
     {
-        let stop = self.push(Node::Exit)?;
+        let stop = self.push(Node::Stop(Ending::Exit))?;
         match e {
             None => self.step(stop),
             Some(e) => {
@@ -228,7 +228,7 @@ impl Builder {
             SimpleStatement::Delete(name, list) => self.lower_delete(scope, name, list, exits),
             SimpleStatement::DeleteAll(name) => self.lower_delete_all(scope, name, exits),
             SimpleStatement::Next => {
-                let stop = self.push(Node::Next)?;
+                let stop = self.push(Node::Stop(Ending::Next))?;
                 self.step(stop)
             }
             SimpleStatement::NextFile => self.lower_next_file(scope, exits),

@@ -164,8 +164,7 @@ IsRare (n.Walk a k) = Unit {0}
 IsRare (n.NextKey i exit) = Unit {0}
 IsRare (n.TakeKey x k) = Unit {0}
 IsRare (n.LeaveWalk k) = Unit {0}
-IsRare n.Next = Unit {0}
-IsRare n.Exit = Unit {0}
+IsRare (n.Stop ending) = Unit {0}
 IsRare x = ⊥
 
 -- a value that was found is put on the stack

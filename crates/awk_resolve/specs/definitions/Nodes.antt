@@ -41,6 +41,10 @@ use Rattle.awk_resolve.specs.declared.node.ArgumentForm.{ArgumentForm}
 use Rattle.awk_resolve.specs.declared.node.ArgumentForm.TheVariants as form
 use Rattle.awk_resolve.specs.declared.node.SplitBy.{SplitBy}
 use Rattle.awk_resolve.specs.declared.node.SplitBy.TheVariants as by
+use Rattle.awk_resolve.specs.declared.node.OutsideCall.{OutsideCall}
+use Rattle.awk_resolve.specs.declared.node.OutsideCall.TheVariants as outside
+use Rattle.awk_resolve.specs.declared.node.Ending.{Ending}
+use Rattle.awk_resolve.specs.declared.node.Ending.TheVariants as ending
 use Rattle.awk_resolve.specs.declared.node.ValueNode.{ValueNode}
 use Rattle.awk_resolve.specs.declared.node.ValueNode.TheVariants as v
 use Rattle.awk_resolve.specs.declared.node.EffectNode.{EffectNode}
@@ -185,6 +189,13 @@ given_by fs vs s = gives (locals_by fs vs s) s
 abbrev pub call_at : Functions → (name : List ℕ) → List ArgumentForm → List Value → Run Value
 call_at functions f fs vs = given_by fs vs >>= λ given. check_height (functions.height f) >>= λ _. spend >>= λ _. functions.call f given
 
+-- `close`, `system` and `fflush`
+abbrev pub outside_value : OutsideCall → List Value → Run Value
+outside_value outside.Close vs = close_named (str_of (first vs)) >>= λ k. ret (value.Number k)
+outside_value outside.System vs = run_command (str_of (first vs)) >>= λ k. ret (value.Number k)
+outside_value outside.FlushAll vs = flush_outputs
+outside_value outside.Flush vs = flush_named (str_of (first vs)) >>= λ k. ret (value.Number k)
+
 module _ (tables : Tables) where
   -- by an ERE of the program, or by the value behind the replacement; the replacement is the topmost
   abbrev pub substitute_by : (all : Bool) → Option ℕ → Place → (operand old : Value) → List Value → Run Value
@@ -242,10 +253,7 @@ module _ (tables : Tables) where
   value_of functions (v.Substitute all pattern p) vs = substitute all pattern p vs
   value_of functions (v.SubstituteIn x) vs = substitute_in x.all x.ere x.replacement x.variable
   value_of functions (v.Getline x p) vs = getline_by x p vs
-  value_of functions v.Close vs = close_named (str_of (first vs)) >>= λ k. ret (value.Number k)
-  value_of functions v.System vs = run_command (str_of (first vs)) >>= λ k. ret (value.Number k)
-  value_of functions v.FlushAll vs = flush_outputs
-  value_of functions v.Flush vs = flush_named (str_of (first vs)) >>= λ k. ret (value.Number k)
+  value_of functions (v.Outside call) vs = outside_value call vs
   value_of functions (v.Call f fs) vs = call_at functions (function_at tables f) fs.items (taken (values_among fs.items) vs)
 
 -- how many values a substitution takes
@@ -268,6 +276,10 @@ split_operands b = 0
 abbrev pub key_operands : Option Key → ℕ
 key_operands None = 1
 key_operands (Some k) = 0
+
+abbrev pub outside_operands : OutsideCall → ℕ
+outside_operands outside.FlushAll = 0
+outside_operands call = 1
 
 -- how many values a node takes off the stack
 abbrev pub popped : ValueNode → ℕ
@@ -299,10 +311,7 @@ popped (v.Split a b) = suc (split_operands b)
 popped (v.Substitute all pattern p) = target_operands p + suc (pattern_operands pattern)
 popped (v.SubstituteIn x) = 0
 popped (v.Getline x p) = source_operands x + place_operands p
-popped v.Close = 1
-popped v.System = 1
-popped v.FlushAll = 0
-popped v.Flush = 1
+popped (v.Outside call) = outside_operands call
 popped (v.Call f fs) = values_among fs.items
 
 -- the opening that a print prints to; the name of a redirection's target is the topmost value
@@ -348,6 +357,10 @@ abbrev pub next_key_by : ℕ → (turn exit : Run Value) → Run Value
 next_key_by zero turn exit = exit
 next_key_by (suc k) turn exit = turn
 
+abbrev pub halt_by : Ending → Halt
+halt_by ending.Next = halt.Next
+halt_by ending.Exit = halt.Exit
+
 -- what a node does, from what other places do and from what a turn of a loop does
 module _ (tables : Tables) (functions : Functions) (again : ℕ → Cont) where
   abbrev pub made : (ℕ → Cont) → Node → Cont
@@ -371,8 +384,7 @@ module _ (tables : Tables) (functions : Functions) (again : ℕ → Cont) where
   made at (n.TakeKey x k) = λ vs. put_variable tables.names x (second vs) >>= λ _. at k (value.Number (pos (keys_left (first vs) - 1)) ∷ drop 2 vs)
   made at (n.LeaveWalk k) = λ vs. at k (drop (suc (keys_left (first vs))) vs)
   made at n.Return = λ vs. ret (first vs)
-  made at n.Next = λ vs. lift (Err halt.Next)
-  made at n.Exit = λ vs. lift (Err halt.Exit)
+  made at (n.Stop ending) = λ vs. lift (Err (halt_by ending))
   made at n.End = nothing
 
   abbrev pub conts : List Cont → List Node → List Cont
@@ -410,8 +422,7 @@ AreBelow at (n.NextKey i exit) = exit < at
 AreBelow at (n.TakeKey x k) = k < at
 AreBelow at (n.LeaveWalk k) = k < at
 AreBelow at n.Return = Unit {0}
-AreBelow at n.Next = Unit {0}
-AreBelow at n.Exit = Unit {0}
+AreBelow at (n.Stop ending) = Unit {0}
 AreBelow at n.End = Unit {0}
 
 abbrev pub IsOrdered : List Node → Type 0

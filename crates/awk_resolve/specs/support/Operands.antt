@@ -15,6 +15,7 @@ use Rattle.awk_grammar.specs.declared.tree.BinaryOperator.{BinaryOperator}
 use Rattle.awk_grammar.specs.declared.tree.BinaryOperator.TheVariants.{Infix}
 use Rattle.awk_grammar.specs.Tree.{Expr, Ere, OptionalExpr, NoExpr, AnExpr}
 use Rattle.awk_storage.specs.declared.position.Variable.{Variable}
+use Rattle.awk_resolve.specs.declared.node.OutsideCall.TheVariants as outside
 use Rattle.awk_resolve.specs.declared.node.Operand.TheVariants as operand
 use Rattle.awk_resolve.specs.declared.node.Source.{Source}
 use Rattle.awk_resolve.specs.declared.node.Source.TheVariants as source
@@ -101,8 +102,8 @@ reads_in_place built_in.Index = true
 reads_in_place f = false
 
 abbrev pub strict_node : BuiltIn → ℕ → ValueNode
-strict_node built_in.Close k = v.Close
-strict_node built_in.System k = v.System
+strict_node built_in.Close k = v.Outside outside.Close
+strict_node built_in.System k = v.Outside outside.System
 strict_node f k = v.Apply f k
 
 -- what a string is exchanged by, with nothing on the stack

@@ -158,14 +158,5 @@ returns-in-Substitute-clause-evaluates g c = rw c.in-Substitute.is (computed_eva
 pub returns-in-Getline-clause-evaluates : goal.returns-in-Getline-clause-evaluates
 returns-in-Getline-clause-evaluates g c = rw c.in-Getline.is c.getline.ensures.evaluates
 
-pub returns-in-Close-clause-evaluates : goal.returns-in-Close-clause-evaluates
-returns-in-Close-clause-evaluates g c = rw c.in-Close.is c.close.ensures.evaluates
-
-pub returns-in-System-clause-evaluates : goal.returns-in-System-clause-evaluates
-returns-in-System-clause-evaluates g c = rw c.in-System.is c.system.ensures.evaluates
-
-pub returns-in-FlushAll-clause-evaluates : goal.returns-in-FlushAll-clause-evaluates
-returns-in-FlushAll-clause-evaluates g c = rw c.in-FlushAll.is c.flush_all.ensures.evaluates
-
-pub returns-in-Flush-clause-evaluates : goal.returns-in-Flush-clause-evaluates
-returns-in-Flush-clause-evaluates g c = rw c.in-Flush.is c.flush.ensures.evaluates
+pub returns-in-Outside-clause-evaluates : goal.returns-in-Outside-clause-evaluates
+returns-in-Outside-clause-evaluates g c = rw c.in-Outside.is c.call_outside.ensures.evaluates
