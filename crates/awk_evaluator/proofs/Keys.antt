@@ -1,5 +1,5 @@
 -- Elements at keys that are read where they stand.
-use Rattle.std.specs.Prelude.{OnOk, IfSome}
+use Rattle.std.specs.Prelude.{OnOk, IfSome, is_some}
 use Rattle.std.specs.List.{concat}
 use Rattle.std.proofs.Common.{◌≡◌, ℕ, ℤ, Bool, true, List, [], ◌∷◌, ◌++◌, map, length, drop, None, Some, Option, Result, Ok, Err, refl, sym, ap, ◌∙◌, subst}
 use Rattle.std.specs.Global.{Vec}
@@ -7,6 +7,7 @@ use Rattle.awk_value.specs.declared.value.Value.{Value}
 use Rattle.awk_value.specs.declared.value.Value.TheVariants as value
 use Rattle.awk_value.specs.Values.{str_of}
 use Rattle.awk_lex.specs.declared.token.AssignmentOperator.{AssignmentOperator}
+use Rattle.awk_lex.specs.declared.token.AssignmentOperator.TheVariants as assignment
 use Rattle.awk_lex.specs.declared.token.IncrementOperator.{IncrementOperator}
 use Rattle.awk_semantics.specs.declared.halt.Halt.{Halt}
 use Rattle.awk_semantics.specs.State.{State, Run, ◌>>=◌, lift, ret}
@@ -33,7 +34,7 @@ use Rattle.awk_evaluator.specs.Moves.{Computes, Done, Keeps, without_value}
 use Rattle.awk_evaluator.specs.Reading.{Runs, Leaves, ReadsOperand, ReadsJoined, ReadsKey, AssignsElement, AssignsTarget, PutsAt, Raises, PutsValues, PutsOperands}
 use Rattle.awk_evaluator.specs.Appending.{Joins}
 use Rattle.awk_evaluator.specs.Quick.{IsAtHand, IsKeyAtHand, IsAsGood, Puts, Pushed, AssignsAlike}
-use Rattle.awk_evaluator.specs.Elements.{IsJoinedAtHand}
+use Rattle.awk_evaluator.specs.Elements.{IsJoinedAtHand, Acts, GivesElement, RaisesElement, RaisesAtKey}
 use Rattle.awk_evaluator.proofs.OperandPrints.{own_taken, own_dropped}
 use Rattle.awk_evaluator.proofs.QuickValues.{pushed_puts}
 use Rattle.awk_evaluator.proofs.Parts.{leaves_kept}
@@ -42,13 +43,14 @@ use Rattle.awk_evaluator.proofs.Computing.{made_of}
 -- keys at hand
 
 module _ (m : Machine) where
-  pub operand_key : (a : Operand) (found : Option Value) → IfSome found (λ w. IsAtHand a w m) → IfSome found (λ w. IsKeyAtHand (key.At a) w m)
-  operand_key a None h = tt
-  operand_key a (Some w) h = record { changes = h.changes }
+  module _ {Answer : Type 0} (does : Value → Machine → Answer → Machine → Type 0) (m' : Machine) where
+    pub operand_acts : (a : Operand) (found : Option Answer) → IfSome found (λ r. Acts (λ w. IsAtHand a w m) does m r m') → IfSome found (λ r. Acts (λ w. IsKeyAtHand (key.At a) w m) does m r m')
+    operand_acts a None h = tt
+    operand_acts a (Some r) h = record { key = h.key; at_hand = record { changes = h.at_hand.changes }; acted = h.acted }
 
-  pub joined_key : (list : Vec Operand) (found : Option Value) → IfSome found (λ w. IsJoinedAtHand list.items w m) → IfSome found (λ w. IsKeyAtHand (key.Joined list) w m)
-  joined_key list None h = tt
-  joined_key list (Some w) h = record { changes = h.changes }
+    pub joined_acts : (list : Vec Operand) (found : Option Answer) → IfSome found (λ r. Acts (λ w. IsJoinedAtHand list.items w m) does m r m') → IfSome found (λ r. Acts (λ w. IsKeyAtHand (key.Joined list) w m) does m r m')
+    joined_acts list None h = tt
+    joined_acts list (Some r) h = record { key = h.key; at_hand = record { changes = h.at_hand.changes }; acted = h.acted }
 
   pub joined_found : (list : List Operand) {text : List ℕ} → Joins list m [] text → IsJoinedAtHand list (value.Text text) m
   joined_found list j = record { changes = then_changes _ j.read (lift_changes _ m.runtime (ap (λ (l : List ℕ). Ok (value.Text l)) (sym j.text))) }
@@ -148,6 +150,16 @@ module _ {m : Machine} {k : Key} {w : Value} (at : IsKeyAtHand k w m) where
   pub raised_at : (o : IncrementOperator) (a : Array) {x : Value} {m' : Machine} → Changes (post_increment_at m.runtime.names.scalars o (place.Element a) w) m.runtime m'.runtime (Ok x) → m'.operands ≡ m.operands → m'.calls ≡ m.calls → Done (λ r. Raises o (target.Element a k) m r m') (Ok tt)
   raised_at o a {x = x} h operands calls = record { done = (x, record { operands = operands; calls = calls; changes = then_changes _ at.changes h }) }
 
+-- the number of an element that is raised at a key that is at hand
+
+pub raised_at_key : {o : IncrementOperator} {a : Array} {k : Key} {m m' : Machine} (found : Option ℤ) → Acts (λ w. IsKeyAtHand k w m) (λ key old answer new. RaisesElement o a key old answer new) m found m' → IfSome found (λ n. RaisesAtKey o a k m n m')
+raised_at_key None h = tt
+raised_at_key (Some n) h = record { key = h.key; at_hand = h.at_hand; raises = h.acted.raises; operands = h.acted.operands; calls = h.acted.calls }
+
+pub some_raised : {P : ℤ → Type 0} (found : Option ℤ) → is_some found ≡ true → IfSome found P → (n : ℤ) × P n
+some_raised None is h = cc
+some_raised (Some n) is h = (n, h)
+
 -- an operand is assigned to the element at a key
 
 abbrev assigns : AssignmentOperator → Array → Operand → Naming → Value → Run Value
@@ -193,6 +205,10 @@ good_assigned o array key {m = m} {m' = m'} good g operands calls = record {
     },
   );
 }
+
+-- an operand that is at hand, and the element at a key that is
+pub value_assigned : (array : Array) (key : Value) {a : Operand} {w : Value} {m m' : Machine} → IsAtHand a w m → GivesElement None array key w m m' → Done (λ r. AssignsElement assignment.Plain array key a m r m') (Ok tt)
+value_assigned array key at g = record { done = (g.gives.gives.0, record { operands = g.operands; calls = g.calls; changes = then_changes _ at.changes g.gives.gives.1 }) }
 
 -- by a value, which isn't read again
 given_by : (o : AssignmentOperator) (array : Array) (key w : Value) {m mid m' : Machine} (r : Result (Unit {0}) Halt) → Keeps mid m' → Gives (assign_by_at m.runtime.names.scalars (operator_of o) (place.Element array) key w) m.runtime r mid.runtime → mid.operands ≡ m.operands → mid.calls ≡ m.calls → Done (λ q. PutsAt o array key w m q m') (without_value r)

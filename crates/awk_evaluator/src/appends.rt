@@ -1,14 +1,14 @@
 // The moves that append operands to the text of a target: what is at hand is appended where it stands.
 
-ghost use Rattle.std.specs.Prelude.{◌≡◌, [], Ok, Err, IfErr, IfSome, true, false};
+ghost use Rattle.std.specs.Prelude.{◌≡◌, [], Ok, Err, IfErr, true, false};
 ghost use Rattle.awk_semantics.specs.State.{Run};
 ghost use Rattle.awk_value.specs.declared.value.Value.{Value as AnyValue};
 ghost use Rattle.awk_runtime.specs.Simulation.{Changes};
 ghost use Rattle.awk_evaluator.specs.Moves.{Done, Keeps, came};
-ghost use Rattle.awk_evaluator.specs.Quick.{IsAtHand};
 ghost use Rattle.awk_evaluator.specs.Appending.{SpendsAndAppends, AppendsOperands, AppendsAt, AppendsBehind, AppendsBytes, Joins};
 
 use crate::machine::Machine;
+use crate::words::Append;
 use awk_resolve::node::{Key, Operand, Target};
 use awk_semantics::Halt;
 use awk_storage::{Array, Place};
@@ -89,25 +89,10 @@ impl Machine {
         ensures kept { result ≡ Ok false → self.new ≡ self.old }
         ensures refused { IfErr result (λ halt. (run : Run AnyValue) → Changes run self.old.runtime self.new.runtime (Err halt)) }
     {
-        let Some(key) = self.key_at_hand(key) else {
-            return Ok(false);
-        };
-        self.runtime.append_bytes_in(array, &key, text)
-    }
-
-    /// A copy of the value that an operand is, where it is at hand.
-    #[inline(always)]
-    pub(crate) fn copy_at_hand(&mut self, operand: &Operand) -> Option<Value>
-        ensures some { IfSome result (λ value. IsAtHand operand.now value self.old) }
-        ensures same { self.new ≡ self.old }
-    {
-        if let Some(n) = self.number_at(operand) {
-            return Some(Value::Number(n));
+        match self.at_key(key, Append { array, text }) {
+            Some(appended) => appended,
+            None => Ok(false),
         }
-        if let Some(value) = self.value_at(operand) {
-            return value.clone().ok();
-        }
-        self.field_of(operand)
     }
 
     /// Gives a target its text with those of operands of any kind behind it.

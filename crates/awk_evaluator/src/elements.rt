@@ -1,100 +1,33 @@
 // Elements at keys that are read where they stand: what is at hand is read, found and changed there, and all else by the general way.
 
-ghost use Rattle.std.specs.Prelude.{◌≡◌, [], Ok, Some as SomeOf, IfSome, true, false};
+ghost use Rattle.std.specs.Prelude.{◌≡◌, Ok, Some as SomeOf, IfSome, IfNone, true, false};
 ghost use Rattle.awk_resolve.specs.declared.node.ValueNode.TheVariants.{ReadElement, Contains, PostIncrementAt};
 ghost use Rattle.awk_resolve.specs.declared.node.Target.TheVariants.{Element as ElementTarget};
 ghost use Rattle.awk_evaluator.specs.Moves.{Computes, Done, came};
-ghost use Rattle.awk_evaluator.specs.Reading.{ReadsKey, ReadsJoined, AssignsElement, AssignsTarget, PutsAt, Raises};
-ghost use Rattle.awk_evaluator.specs.Quick.{IsKeyAtHand, IsAsGood, Puts};
-ghost use Rattle.awk_evaluator.specs.Elements.{IsJoinedAtHand};
+ghost use Rattle.awk_evaluator.specs.Reading.{AssignsElement, AssignsTarget, PutsAt, Raises};
+ghost use Rattle.awk_evaluator.specs.Quick.{Puts};
+ghost use Rattle.awk_evaluator.specs.Elements.{RaisesAtKey};
 
 use crate::machine::Machine;
+use crate::words::{Change, PutContains, PutElement, PutValue, Raise};
 use awk_functions::{operator_of, truth_value};
 use awk_lex::token::{AssignmentOperator, IncrementOperator};
 use awk_resolve::node::{Key, Operand, Target};
 use awk_semantics::Halt;
 use awk_storage::{Array, Place};
-use awk_value::{Bytes, Value};
+use awk_value::Value;
 
 impl Machine {
-    /// The value that a key is, where it is at hand.
-    #[inline(always)]
-    pub(crate) fn key_at_hand(&mut self, key: &Key) -> Option<Value>
-        ensures some { IfSome result (λ value. IsKeyAtHand key.now value self.old) }
-        ensures same { self.new ≡ self.old }
-    {
-        match key {
-            Key::At(operand) => self.copy_at_hand(operand),
-            Key::Joined(parts) => self.joined_at_hand(parts),
-        }
-    }
-
-    /// The texts of operands that are at hand, one behind the other.
-    #[inline(never)]
-    fn joined_at_hand(&mut self, parts: &[Operand]) -> Option<Value>
-        ensures some { IfSome result (λ value. IsJoinedAtHand parts.now value self.old) }
-        ensures same { self.new ≡ self.old }
-    {
-        let mut text = self.lend_text();
-        let value = self.joined_in(&mut text, parts);
-        self.take_text_back(text);
-        value
-    }
-
-    /// The same, by an empty text in which they are joined.
-    #[inline(always)]
-    fn joined_in(&mut self, text: &mut Vec<u8>, parts: &[Operand]) -> Option<Value>
-        requires { text.old.items ≡ [] }
-        ensures some { IfSome result (λ value. IsJoinedAtHand parts.now value self.old) }
-        ensures same { self.new ≡ self.old }
-    {
-        if !self.join_at_hand(text, parts) {
-            return None;
-        }
-        match Bytes::from_slice(self.runtime.alloc, text) {
-            Ok(bytes) => Some(Value::Text(bytes)),
-            Err(_) => None,
-        }
-    }
-
-    /// The value of a key.
-    pub(crate) fn read_key(&mut self, key: &Key) -> Result<Value, Halt>
-        ensures { ReadsKey key.now self.old result self.new }
-    {
-        match key {
-            Key::At(operand) => self.read_operand(operand),
-            Key::Joined(parts) => self.read_joined(parts),
-        }
-    }
-
-    /// The texts of operands, one behind the other.
-    pub(crate) fn read_joined(&mut self, parts: &[Operand]) -> Result<Value, Halt>
-        ensures { ReadsJoined parts.now self.old result self.new }
-    {
-        self.put_operands(parts)?;
-        let values = self.operands.newest(parts.len());
-        let text = self.runtime.concatenate_all(values)?;
-        self.operands.drop(parts.len());
-        Ok(text)
-    }
-
     /// Puts the element at a key on the stack.
     #[inline(never)]
     pub(crate) fn put_element_at(&mut self, array: Array, key: &Key) -> bool
         ensures puts { result ≡ true → Puts (ReadElement array (SomeOf key.now)) self.old self.new }
         ensures kept { result ≡ false → self.new ≡ self.old }
     {
-        let Some(key) = self.key_at_hand(key) else {
-            return false;
-        };
-        let Some(value) = self.runtime.element_in(array, &key) else {
-            return false;
-        };
-        if let Value::Number(n) = value {
-            let n = *n;
-            return self.put(n);
+        match self.at_key(key, PutElement { array }) {
+            Some(is_done) => is_done,
+            None => false,
         }
-        self.operands.push_copy(value)
     }
 
     /// Puts whether there is an element at a key on the stack.
@@ -103,11 +36,10 @@ impl Machine {
         ensures puts { result ≡ true → Puts (Contains array (SomeOf key.now)) self.old self.new }
         ensures kept { result ≡ false → self.new ≡ self.old }
     {
-        let Some(key) = self.key_at_hand(key) else {
-            return false;
-        };
-        let is_there = self.runtime.has_element(array, &key);
-        self.operands.push(truth_value(is_there)).is_ok()
+        match self.at_key(key, PutContains { array }) {
+            Some(is_done) => is_done,
+            None => false,
+        }
     }
 
     /// Raises or lowers the number of the element at a key by 1, and puts the number that it had on the stack.
@@ -121,18 +53,28 @@ impl Machine {
         ensures puts { result ≡ true → Puts (PostIncrementAt operator (ElementTarget array key.now)) self.old self.new }
         ensures kept { result ≡ false → self.new ≡ self.old }
     {
-        let Some(key) = self.key_at_hand(key) else {
-            return false;
-        };
         let Ok(()) = self.operands.push(Value::Nothing) else {
             return false;
         };
-        let Some(n) = self.runtime.raise_element(operator, array, &key) else {
+        let Some(n) = self.raise_at_key(operator, array, key) else {
             self.operands.pop();
             return false;
         };
         self.operands.replace(Value::Number(n));
         true
+    }
+
+    /// Raises or lowers the number of the element at a key by 1; gives the number that it had. `None`, and nothing changes, where the
+    /// key isn't at hand, or that isn't done where the element stands.
+    #[inline(always)]
+    fn raise_at_key(&mut self, operator: IncrementOperator, array: Array, key: &Key) -> Option<i128>
+        ensures some { IfSome result (λ n. RaisesAtKey operator array key.now self.old n self.new) }
+        ensures none { IfNone result (self.new ≡ self.old) }
+    {
+        match self.at_key(key, Raise { operator, array }) {
+            Some(raised) => raised,
+            None => None,
+        }
     }
 
     /// The element at a key, or at the one that an operand is.
@@ -186,13 +128,13 @@ impl Machine {
     ) -> bool
         ensures { Done (λ r. AssignsTarget operator (ElementTarget array key.now) operand.now self.old r self.new) (came result self.new) }
     {
-        match self.key_at_hand(key) {
-            Some(key) => self.update_at(operator, array, &key, operand),
-            None => self.update_behind(operator, array, key, operand),
+        if self.change_at_hand(operator, array, key, operand) {
+            return true;
         }
+        self.update_behind(operator, array, key, operand)
     }
 
-    /// The same of a key that isn't at hand.
+    /// The same, however the key and the operand stand.
     #[inline(never)]
     fn update_behind(
         &mut self,
@@ -204,7 +146,7 @@ impl Machine {
         ensures { Done (λ r. AssignsTarget operator (ElementTarget array key.now) operand.now self.old r self.new) (came result self.new) }
     {
         match self.read_key(key) {
-            Ok(key) => self.update_at(operator, array, &key, operand),
+            Ok(key) => self.assign_at(operator, array, &key, operand),
             Err(halt) => {
                 self.halt = halt;
                 false
@@ -212,42 +154,52 @@ impl Machine {
         }
     }
 
-    /// Assigns an operand to the element at the text of a value.
-    #[inline(always)]
-    fn update_at(
-        &mut self,
-        operator: AssignmentOperator,
-        array: Array,
-        key: &Value,
-        operand: &Operand,
-    ) -> bool
-        ensures { Done (λ r. AssignsElement operator array key.now operand.now self.old r self.new) (came result self.new) }
-    {
-        if self.change_at_hand(operator, array, key, operand) {
-            return true;
-        }
-        self.assign_at(operator, array, key, operand)
-    }
-
-    /// Assigns the number of an operand that is at hand, where that changes where it stands.
+    /// The same where the key and the operand are at hand, and the element changes where it stands.
     #[inline(always)]
     fn change_at_hand(
         &mut self,
         operator: AssignmentOperator,
         array: Array,
-        key: &Value,
+        key: &Key,
         operand: &Operand,
     ) -> bool
-        ensures changed { result ≡ true → Done (λ r. AssignsElement operator array key.now operand.now self.old r self.new) (Ok tt) }
+        ensures changed { result ≡ true → Done (λ r. AssignsTarget operator (ElementTarget array key.now) operand.now self.old r self.new) (Ok tt) }
         ensures kept { result ≡ false → self.new ≡ self.old }
     {
         let Some(n) = self.number_to_assign(operator, operand) else {
-            return false;
+            return self.put_at_hand(operator, array, key, operand);
         };
-        self.runtime.change_element(operator, array, key, n)
+        match self.at_key(key, Change { operator, array, n }) {
+            Some(is_done) => is_done,
+            None => false,
+        }
     }
 
-    /// The same of an operand of any kind.
+    /// The same of an operand of any value, where no operator is applied.
+    #[inline(never)]
+    fn put_at_hand(
+        &mut self,
+        operator: AssignmentOperator,
+        array: Array,
+        key: &Key,
+        operand: &Operand,
+    ) -> bool
+        ensures changed { result ≡ true → Done (λ r. AssignsTarget operator (ElementTarget array key.now) operand.now self.old r self.new) (Ok tt) }
+        ensures kept { result ≡ false → self.new ≡ self.old }
+    {
+        let AssignmentOperator::Plain = operator else {
+            return false;
+        };
+        let Some(value) = self.value_at_hand(operand) else {
+            return false;
+        };
+        match self.at_key(key, PutValue { array, value }) {
+            Some(is_done) => is_done,
+            None => false,
+        }
+    }
+
+    /// Assigns an operand to the element at the text of a value.
     #[inline(never)]
     fn assign_at(
         &mut self,
@@ -312,13 +264,7 @@ impl Machine {
         ensures raised { result ≡ true → Done (λ r. Raises operator (ElementTarget array key.now) self.old r self.new) (Ok tt) }
         ensures kept { result ≡ false → self.new ≡ self.old }
     {
-        let Some(key) = self.key_at_hand(key) else {
-            return false;
-        };
-        let Some(_) = self.runtime.raise_element(operator, array, &key) else {
-            return false;
-        };
-        true
+        self.raise_at_key(operator, array, key).is_some()
     }
 
     /// Raises or lowers what a target holds, of any kind, by 1; gives the number that it had.

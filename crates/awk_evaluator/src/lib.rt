@@ -2,6 +2,7 @@
 #![tactic(auto)]
 
 mod appends;
+mod at_key;
 mod beginning;
 pub mod calls;
 mod comparisons;
@@ -25,6 +26,7 @@ mod updates;
 mod values;
 mod walks;
 mod watch;
+mod words;
 
 pub use laws::law_of_plans;
 pub use machine::{Machine, Move};

@@ -16,6 +16,7 @@ use awk_functions::{apply_in_short, by_one, concatenate, operator_of, truth_valu
 use awk_grammar::tree::{BinaryOperator, UnaryOperator};
 use awk_lex::token::{AssignmentOperator, BuiltIn, IncrementOperator, Operator};
 use awk_resolve::node::{Operand, Target, ValueNode};
+use awk_runtime::ElementKey;
 use awk_storage::{Array, Place, Variable};
 use awk_value::Value;
 
@@ -326,7 +327,7 @@ impl Machine {
         let Some(key) = self.operands.top() else {
             return false;
         };
-        let Some(value) = self.runtime.element_in(array, key) else {
+        let Some(value) = self.runtime.element_in(array, ElementKey::Value(key)) else {
             return false;
         };
         if let Value::Number(n) = value {
@@ -345,7 +346,9 @@ impl Machine {
         let Some(key) = self.operands.top() else {
             return false;
         };
-        let is_there = self.runtime.has_element(array, key);
+        let Some(is_there) = self.runtime.has_element(array, ElementKey::Value(key)) else {
+            return false;
+        };
         self.operands.replace(truth_value(is_there));
         true
     }
@@ -376,6 +379,7 @@ impl Machine {
         let Some(key) = self.operands.top() else {
             return false;
         };
+        let key = ElementKey::Value(key);
         let Some(n) = self.runtime.raise_element(operator, array, key) else {
             return false;
         };

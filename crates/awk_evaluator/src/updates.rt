@@ -14,6 +14,7 @@ ghost use Rattle.awk_evaluator.specs.Quick.{AssignsAlike, IsAsGood};
 use crate::machine::Machine;
 use awk_lex::token::{AssignmentOperator, IncrementOperator};
 use awk_resolve::node::{Operand, Target};
+use awk_runtime::ElementKey;
 use awk_storage::{Array, Place, Variable};
 use awk_value::{Value, number_of};
 
@@ -215,6 +216,7 @@ impl Machine {
         let Some(key) = self.operands.below() else {
             return false;
         };
+        let key = ElementKey::Value(key);
         if !self.runtime.change_element(operator, *array, key, n) {
             return false;
         }
@@ -340,6 +342,7 @@ impl Machine {
         let Some(key) = self.operands.below() else {
             return false;
         };
+        let key = ElementKey::Value(key);
         if !self.runtime.change_element(operator, *array, key, n) {
             return false;
         }
@@ -395,6 +398,7 @@ impl Machine {
         let Some(key) = self.operands.top() else {
             return false;
         };
+        let key = ElementKey::Value(key);
         let Some(_) = self.runtime.raise_element(operator, *array, key) else {
             return false;
         };

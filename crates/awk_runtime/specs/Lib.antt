@@ -6,4 +6,5 @@ pub use Rattle.awk_runtime.specs.support.Calling
 pub use Rattle.awk_runtime.specs.support.Beginning
 pub use Rattle.awk_runtime.specs.support.Appends
 pub use Rattle.awk_runtime.specs.support.Lines
+pub use Rattle.awk_runtime.specs.support.Keys
 pub use Rattle.awk_runtime.specs.support.Passing

@@ -12,3 +12,4 @@ pub mod Operands
 pub mod Inputs
 pub mod NamedInputs
 pub mod Passing
+pub mod Keys

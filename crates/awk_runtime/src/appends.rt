@@ -8,7 +8,9 @@ ghost use Rattle.awk_semantics.specs.State.{Run};
 ghost use Rattle.awk_storage.specs.declared.position.Place.TheVariants.{Variable as VariablePlace, Element};
 ghost use Rattle.awk_runtime.specs.support.Appends.{LetsGo, AppendsText, AppendsAt, appended};
 ghost use Rattle.awk_runtime.specs.support.Simulation.{Changes};
+ghost use Rattle.awk_runtime.specs.support.Keys.{key_value, StandsIn};
 
+use crate::keys::{ElementKey, subscript_of};
 use crate::runtime::Runtime;
 use awk_functions::{append, append_each};
 use awk_semantics::Halt;
@@ -92,14 +94,23 @@ impl Runtime {
         Ok(true)
     }
 
-    /// The same of the element at the text of a key, if it is there.
+    /// The same of the element at a key, if it is there and the key is at hand.
     #[inline(always)]
-    pub fn append_bytes_in(&mut self, array: Array, key: &Value, bytes: &[u8]) -> Result<bool, Halt>
-        ensures appends { result ≡ Ok true → AppendsAt (Element array) key.now bytes.now self.old self.new }
+    pub fn append_bytes_in(
+        &mut self,
+        array: Array,
+        key: ElementKey,
+        bytes: &[u8],
+    ) -> Result<bool, Halt>
+        requires { StandsIn self.old.current.text key }
+        ensures appends { result ≡ Ok true → AppendsAt (Element array) (key_value self.old.current.text key.entry) bytes.now self.old self.new }
         ensures kept { result ≡ Ok false → self.new ≡ self.old }
         ensures refused { IfErr result (λ halt. (run : Run AnyValue) → Changes run self.old self.new (Err halt)) }
     {
         let number = self.number_at(array);
+        let Some(key) = subscript_of(&self.current, key) else {
+            return Ok(false);
+        };
         let Some(text) = self.arrays.value_mut(number as usize, key) else {
             return Ok(false);
         };

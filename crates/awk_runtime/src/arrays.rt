@@ -15,7 +15,7 @@ use crate::runtime::Runtime;
 use awk_functions::joined_key;
 use awk_kinds::Special;
 use awk_semantics::{Halt, Local};
-use awk_storage::Array;
+use awk_storage::{Array, Subscript};
 use awk_value::{Bytes, Value, number_of, text_of};
 
 impl Runtime {
@@ -38,7 +38,9 @@ impl Runtime {
         ensures { Changes (read_element_of array (str_of key.now)) self.old self.new result }
     {
         let number = self.number_at(array);
-        let value = self.arrays.get_or_make(number as usize, key)?;
+        let value = self
+            .arrays
+            .get_or_make(number as usize, Subscript::of(key))?;
         Ok(value)
     }
 
@@ -53,7 +55,7 @@ impl Runtime {
     {
         let number = self.number_at(array);
         let value = value.settled(self.alloc)?;
-        self.arrays.put(number as usize, key, value)?;
+        self.arrays.put(number as usize, Subscript::of(key), value)?;
         Ok(())
     }
 
@@ -62,7 +64,7 @@ impl Runtime {
         ensures { Changes (contains_at array (str_of key.now)) self.old self.new result }
     {
         let number = self.number_at(array);
-        Ok(self.arrays.has(number as usize, key))
+        Ok(self.arrays.has(number as usize, Subscript::of(key)))
     }
 
     /// Removes the element at the text of a key.
@@ -70,7 +72,7 @@ impl Runtime {
         ensures { Changes (delete_at array (str_of key.now)) self.old self.new result }
     {
         let number = self.number_at(array);
-        self.arrays.remove(number as usize, key);
+        self.arrays.remove(number as usize, Subscript::of(key));
         Ok(())
     }
 
@@ -123,7 +125,7 @@ impl Runtime {
         ensures memory { IfErr result IsWantOfMemory }
     {
         let number = self.names.array_number(b"ARGV");
-        match self.arrays.get(number, &Value::Number(self.next)) {
+        match self.arrays.get(number, Subscript::Number(self.next)) {
             Some(value) => Ok(text_of(self.alloc, value)?),
             None => Ok(Bytes::from_slice(self.alloc, b"")?),
         }

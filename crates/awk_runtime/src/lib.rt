@@ -10,6 +10,7 @@ mod elements;
 mod fields;
 mod getlines;
 mod inputs;
+mod keys;
 mod lines;
 mod names;
 mod operands;
@@ -22,6 +23,7 @@ mod start;
 mod texts;
 mod variables;
 
+pub use keys::ElementKey;
 pub use names::{ProgramNames, add_name, array_names, function_names};
 pub use passing::Unwanted;
 pub use runtime::Runtime;

@@ -14,7 +14,7 @@ use awk_functions::{apply_in_short, by_one};
 use awk_kinds::Special;
 use awk_lex::token::{IncrementOperator, Operator};
 use awk_semantics::{Halt, Local};
-use awk_storage::{Array, Place, Variable};
+use awk_storage::{Array, Place, Subscript, Variable};
 use awk_value::{Value, number_of};
 
 /// A number that was changed where it stands.
@@ -197,7 +197,7 @@ impl Runtime {
         ensures kept { IfNone result (self.new ≡ self.old) }
     {
         let number = self.number_at(array);
-        let Some(place) = self.arrays.value_mut(number as usize, key) else {
+        let Some(place) = self.arrays.value_mut(number as usize, Subscript::of(key)) else {
             return None;
         };
         let Some(updated) = update_of(operator, place, n) else {

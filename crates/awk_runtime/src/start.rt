@@ -13,7 +13,7 @@ use crate::runtime::Runtime;
 use awk_functions::{Formats, Patterns};
 use awk_record::Record;
 use awk_semantics::{Fault, Halt};
-use awk_storage::{Arrays, Frames, Variables};
+use awk_storage::{Arrays, Frames, Subscript, Variables};
 use awk_streams::Streams;
 use awk_value::{Bytes, Value};
 use std::alloc::{AllocError, Global};
@@ -65,7 +65,7 @@ fn put_environ(
 {
     for entry in environ {
         let text = Bytes::from_slice(alloc, &entry.text)?;
-        arrays.put_text(number, &entry.name, Value::Input(text))?;
+        arrays.put(number, Subscript::Text(&entry.name), Value::Input(text))?;
     }
     Ok(())
 }

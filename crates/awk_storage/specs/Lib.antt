@@ -5,3 +5,4 @@ pub mod support
 pub use Rattle.awk_storage.specs.definitions.Positions
 pub use Rattle.awk_storage.specs.definitions.Forms
 pub use Rattle.awk_storage.specs.definitions.Control
+pub use Rattle.awk_storage.specs.definitions.Subscripts

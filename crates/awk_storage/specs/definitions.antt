@@ -1,3 +1,4 @@
 pub mod Positions
 pub mod Forms
 pub mod Control
+pub mod Subscripts

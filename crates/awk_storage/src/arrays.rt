@@ -4,14 +4,15 @@ ghost use Rattle.std.specs.Prelude.{◌≡◌, ◌++◌, ◌∷◌, [], length, 
 ghost use Rattle.std.specs.Map.{keys_of};
 ghost use Rattle.std.specs.Option.{option_copied, option_copied_mut};
 ghost use Rattle.std.specs.Borrow.{sem};
-ghost use Rattle.awk_value.specs.Values.{str_of};
 ghost use Rattle.awk_value.specs.declared.value.Value.TheVariants.{Nothing};
 ghost use Rattle.awk_value.specs.declared.fault.ValueFault.TheVariants.{Memory};
 ghost use Rattle.awk_value.specs.Arrays.{value_at, with_pair, with_key, without};
 ghost use Rattle.awk_text.specs.Pieces.{stretches_at, AreSpansOf};
 ghost use Rattle.awk_semantics.specs.definitions.Primitives.{elements_from};
+ghost use Rattle.awk_storage.specs.definitions.Subscripts.{key_of};
 
 use crate::key;
+use crate::subscript::Subscript;
 use awk_text::Span;
 use awk_value::{Bytes, Table, Value, ValueFault};
 use std::alloc::{AllocFailed, Global};
@@ -84,9 +85,10 @@ impl Arrays {
         }
     }
 
-    /// The element at the text of a key, if it is there.
-    pub fn get(&self, number: usize, key: &Value) -> Option<&Value>
-        ensures { option_copied result ≡ value_at (array_of self.now number) (str_of key.now) }
+    /// The element at the key of a subscript, if it is there.
+    #[inline(always)]
+    pub fn get(&self, number: usize, key: Subscript) -> Option<&Value>
+        ensures { option_copied result ≡ value_at (array_of self.now number) (key_of key.entry) }
     {
         if number >= self.live {
             return None;
@@ -94,11 +96,11 @@ impl Arrays {
         key::get(&self.tables[number], key)
     }
 
-    /// The element at the text of a key, if it is there, to be changed.
+    /// The element at the key of a subscript, if it is there, to be changed.
     #[inline]
-    pub fn value_mut(&mut self, number: usize, key: &Value) -> Option<&mut Value>
-        ensures* writes_back { sem 𝓛 (LendsElement self.entry number (str_of key.now) result) }
-        ensures value { option_copied_mut result ≡ value_at (array_of self.old number) (str_of key.now) }
+    pub fn value_mut(&mut self, number: usize, key: Subscript) -> Option<&mut Value>
+        ensures* writes_back { sem 𝓛 (LendsElement self.entry number (key_of key.entry) result) }
+        ensures value { option_copied_mut result ≡ value_at (array_of self.old number) (key_of key.entry) }
     {
         if number >= self.live {
             return None;
@@ -109,10 +111,10 @@ impl Arrays {
         }
     }
 
-    /// A copy of the element at the text of a key, which is made where it isn't there. The fault is `Memory`.
-    pub fn get_or_make(&mut self, number: usize, key: &Value) -> Result<Value, ValueFault>
-        ensures value { IfOk result (λ v. v ≡ unwrap_or (value_at (array_of self.old number) (str_of key.now)) Nothing) }
-        ensures made { OnOk result (self.new ≡ slice_set self.old number (with_key (array_of self.old number) (str_of key.now))) }
+    /// A copy of the element at the key of a subscript, which is made where it isn't there. The fault is `Memory`.
+    pub fn get_or_make(&mut self, number: usize, key: Subscript) -> Result<Value, ValueFault>
+        ensures value { IfOk result (λ v. v ≡ unwrap_or (value_at (array_of self.old number) (key_of key.entry)) Nothing) }
+        ensures made { OnOk result (self.new ≡ slice_set self.old number (with_key (array_of self.old number) (key_of key.entry))) }
         ensures fault { IfErr result (λ fault. fault ≡ Memory) }
     {
         if number >= self.live {
@@ -122,9 +124,10 @@ impl Arrays {
         Ok(value)
     }
 
-    /// Gives the element at the text of a key a value. The fault is `Memory`, and changes nothing.
-    pub fn put(&mut self, number: usize, key: &Value, value: Value) -> Result<(), ValueFault>
-        ensures put { OnOk result (self.new ≡ slice_set self.old number (with_pair (array_of self.old number) (str_of key.now) value)) }
+    /// Gives the element at the key of a subscript a value. The fault is `Memory`, and changes nothing.
+    #[inline]
+    pub fn put(&mut self, number: usize, key: Subscript, value: Value) -> Result<(), ValueFault>
+        ensures put { OnOk result (self.new ≡ slice_set self.old number (with_pair (array_of self.old number) (key_of key.entry) value)) }
         ensures unchanged { OnErr result (self.new ≡ self.old) }
         ensures fault { IfErr result (λ fault. fault ≡ Memory) }
     {
@@ -135,21 +138,10 @@ impl Arrays {
         Ok(())
     }
 
-    /// Gives the element at a text a value. The fault is `Memory`.
-    pub fn put_text(&mut self, number: usize, key: &[u8], value: Value) -> Result<(), ValueFault>
-        ensures put { OnOk result (self.new ≡ slice_set self.old number (with_pair (array_of self.old number) key.now value)) }
-        ensures fault { IfErr result (λ fault. fault ≡ Memory) }
-    {
-        if number >= self.live {
-            return Ok(());
-        }
-        self.tables[number].put(self.alloc, key, value)?;
-        Ok(())
-    }
-
-    /// Whether there is an element at the text of a key.
-    pub fn has(&self, number: usize, key: &Value) -> bool
-        ensures { result ≡ is_some (value_at (array_of self.now number) (str_of key.now)) }
+    /// Whether there is an element at the key of a subscript.
+    #[inline(always)]
+    pub fn has(&self, number: usize, key: Subscript) -> bool
+        ensures { result ≡ is_some (value_at (array_of self.now number) (key_of key.entry)) }
     {
         if number >= self.live {
             return false;
@@ -157,9 +149,9 @@ impl Arrays {
         key::has(&self.tables[number], key)
     }
 
-    /// Removes the element at the text of a key.
-    pub fn remove(&mut self, number: usize, key: &Value)
-        ensures { self.new ≡ slice_set self.old number (without (array_of self.old number) (str_of key.now)) }
+    /// Removes the element at the key of a subscript.
+    pub fn remove(&mut self, number: usize, key: Subscript)
+        ensures { self.new ≡ slice_set self.old number (without (array_of self.old number) (key_of key.entry)) }
     {
         if number >= self.live {
             return;

@@ -1,17 +1,18 @@
-// Keys of arrays: a value stands for its text. A whole number of 64 bits is looked for without writing it.
+// Keys of arrays, by their subscripts. A whole number of 64 bits is looked for without writing it.
 
 ghost use Rattle.std.specs.Prelude.{◌≡◌, [], IfSome, IfOk, IfErr, OnOk, OnErr, is_some, unwrap_or};
 ghost use Rattle.std.specs.Borrow.{sem};
 ghost use Rattle.std.specs.Fmt.{signed_decimal};
 ghost use Rattle.std.specs.Option.{option_copied, option_copied_mut};
-ghost use Rattle.awk_value.specs.Values.{str_of};
 ghost use Rattle.awk_value.specs.declared.value.Value.TheVariants.{Nothing};
 ghost use Rattle.awk_value.specs.declared.fault.ValueFault.TheVariants.{Memory};
 ghost use Rattle.awk_value.specs.Arrays.{value_at, with_pair, with_key, without};
 ghost use Rattle.awk_value.specs.Lending.{LendsValue};
 ghost use Rattle.awk_text.specs.Pieces.{stretches_at, AreSpansOf};
 ghost use Rattle.awk_semantics.specs.definitions.Primitives.{elements_from};
+ghost use Rattle.awk_storage.specs.definitions.Subscripts.{key_of};
 
+use crate::subscript::Subscript;
 use awk_text::Span;
 use awk_value::{Bytes, Table, Value, ValueFault};
 use itoa::Buffer;
@@ -19,45 +20,43 @@ use std::alloc::Global;
 
 /// The 64-bit number that a key is, if it is one.
 #[inline(always)]
-fn whole_number(key: &Value) -> Option<i64>
-    ensures { IfSome result (λ number. str_of key.now ≡ signed_decimal number) }
+fn whole_number(key: Subscript) -> Option<i64>
+    ensures { IfSome result (λ number. key_of key.entry ≡ signed_decimal number) }
 {
     match key {
-        Value::Number(number) => i64::try_from(*number).ok(),
-        Value::Nothing | Value::Text(_) | Value::Input(_) => None,
-    }
-}
-
-/// The text of a key, with room for that of a number.
-fn key_text<'a>(key: &'a Value, buffer: &'a mut Buffer) -> &'a [u8]
-    ensures { result.now ≡ str_of key.now }
-{
-    match key {
-        Value::Nothing => b"",
-        Value::Number(number) => buffer.format(*number).as_bytes(),
-        Value::Text(text) | Value::Input(text) => text.as_slice(),
+        Subscript::Number(number) => i64::try_from(number).ok(),
+        Subscript::Text(_) => None,
     }
 }
 
 /// The value at a key, if it is there.
-pub(crate) fn get<'a>(table: &'a Table, key: &Value) -> Option<&'a Value>
-    ensures { option_copied result ≡ value_at table.now (str_of key.now) }
+#[inline(always)]
+pub(crate) fn get<'a>(table: &'a Table, key: Subscript) -> Option<&'a Value>
+    ensures { option_copied result ≡ value_at table.now (key_of key.entry) }
 {
     match whole_number(key) {
         Some(number) => table.get_number(number),
-        None => table.get(key_text(key, &mut Buffer::new())),
+        None => get_text(table, key),
     }
+}
+
+/// The value at the text of a key, if it is there.
+#[inline(never)]
+fn get_text<'a>(table: &'a Table, key: Subscript) -> Option<&'a Value>
+    ensures { option_copied result ≡ value_at table.now (key_of key.entry) }
+{
+    table.get(key.text(&mut Buffer::new()))
 }
 
 /// The value at a key, if it is there, to be changed.
 #[inline]
-pub(crate) fn value_mut<'a>(table: &'a mut Table, key: &Value) -> Option<&'a mut Value>
-    ensures* writes_back { sem 𝓛 (LendsValue table.entry (str_of key.now) result) }
-    ensures value { option_copied_mut result ≡ value_at table.old (str_of key.now) }
+pub(crate) fn value_mut<'a>(table: &'a mut Table, key: Subscript) -> Option<&'a mut Value>
+    ensures* writes_back { sem 𝓛 (LendsValue table.entry (key_of key.entry) result) }
+    ensures value { option_copied_mut result ≡ value_at table.old (key_of key.entry) }
 {
     match whole_number(key) {
         Some(number) => table.get_number_mut(number),
-        None => table.get_mut(key_text(key, &mut Buffer::new())),
+        None => table.get_mut(key.text(&mut Buffer::new())),
     }
 }
 
@@ -65,52 +64,54 @@ pub(crate) fn value_mut<'a>(table: &'a mut Table, key: &Value) -> Option<&'a mut
 pub(crate) fn get_or_make(
     table: &mut Table,
     alloc: Global,
-    key: &Value,
+    key: Subscript,
 ) -> Result<Value, ValueFault>
-    ensures value { IfOk result (λ v. v ≡ unwrap_or (value_at table.old (str_of key.now)) Nothing) }
-    ensures made { OnOk result (table.new ≡ with_key table.old (str_of key.now)) }
+    ensures value { IfOk result (λ v. v ≡ unwrap_or (value_at table.old (key_of key.entry)) Nothing) }
+    ensures made { OnOk result (table.new ≡ with_key table.old (key_of key.entry)) }
     ensures fault { IfErr result (λ fault. fault ≡ Memory) }
 {
     match whole_number(key) {
         Some(number) => table.get_or_make_number(number),
-        None => table.get_or_make(alloc, key_text(key, &mut Buffer::new())),
+        None => table.get_or_make(alloc, key.text(&mut Buffer::new())),
     }
 }
 
 /// Gives a key a value. An `Err` changes nothing.
+#[inline]
 pub(crate) fn put(
     table: &mut Table,
     alloc: Global,
-    key: &Value,
+    key: Subscript,
     value: Value,
 ) -> Result<(), ValueFault>
-    ensures put { OnOk result (table.new ≡ with_pair table.old (str_of key.now) value) }
+    ensures put { OnOk result (table.new ≡ with_pair table.old (key_of key.entry) value) }
     ensures unchanged { OnErr result (table.new ≡ table.old) }
     ensures fault { IfErr result (λ fault. fault ≡ Memory) }
 {
     match whole_number(key) {
         Some(number) => table.put_number(number, value),
-        None => table.put(alloc, key_text(key, &mut Buffer::new()), value),
+        None => table.put(alloc, key.text(&mut Buffer::new()), value),
     }
 }
 
 /// Whether there is a value at a key.
-pub(crate) fn has(table: &Table, key: &Value) -> bool
-    ensures { result ≡ is_some (value_at table.now (str_of key.now)) }
+#[inline(always)]
+pub(crate) fn has(table: &Table, key: Subscript) -> bool
+    ensures { result ≡ is_some (value_at table.now (key_of key.entry)) }
 {
     match whole_number(key) {
         Some(number) => table.has_number(number),
-        None => table.has(key_text(key, &mut Buffer::new())),
+        None => get_text(table, key).is_some(),
     }
 }
 
 /// Removes a key with its value.
-pub(crate) fn remove(table: &mut Table, key: &Value)
-    ensures { table.new ≡ without table.old (str_of key.now) }
+pub(crate) fn remove(table: &mut Table, key: Subscript)
+    ensures { table.new ≡ without table.old (key_of key.entry) }
 {
     match whole_number(key) {
         Some(number) => table.remove_number(number),
-        None => table.remove(key_text(key, &mut Buffer::new())),
+        None => table.remove(key.text(&mut Buffer::new())),
     }
 }
 

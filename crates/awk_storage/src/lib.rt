@@ -8,6 +8,7 @@ mod frames;
 mod key;
 mod position;
 pub mod room;
+mod subscript;
 mod variables;
 
 pub use arrays::Arrays;
@@ -15,4 +16,5 @@ pub use control::{Control, FIRST_BOUND, HIGHEST_SUM};
 pub use entry::Entry;
 pub use frames::Frames;
 pub use position::{Array, Place, Variable};
+pub use subscript::Subscript;
 pub use variables::Variables;

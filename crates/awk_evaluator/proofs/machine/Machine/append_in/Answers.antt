@@ -1,11 +1,12 @@
-use Rattle.std.proofs.Common.{subst, Err}
-use Rattle.std.specs.Prelude.{IfErr}
-use Rattle.awk_value.specs.declared.value.Value.{Value}
-use Rattle.awk_semantics.specs.State.{Run}
-use Rattle.awk_runtime.specs.Simulation.{Changes}
-use Rattle.awk_evaluator.specs.declared.machine.Machine.{Machine}
 use Rattle.awk_evaluator.proofs.machine.Machine.append_in.Goals as goal
 
-pub returns-clause-refused : goal.returns-clause-refused
-returns-clause-refused c =
-    subst (λ (x : Machine). IfErr c.append_bytes_in.result (λ halt. (run : Run Value) → Changes run x.runtime c.append_bytes_in.new.self (Err halt))) c.key_at_hand.ensures.same c.append_bytes_in.ensures.refused
+pub returns-in-Some-clause-appended : goal.returns-in-Some-clause-appended
+returns-in-Some-clause-appended c = λ done.
+    let h = c.in-Some.ensures.some in
+    record { key = h.key; at_hand = h.at_hand; operands = h.acted.operands; calls = h.acted.calls; appends = h.acted.appends done }
+
+pub returns-in-Some-clause-kept : goal.returns-in-Some-clause-kept
+returns-in-Some-clause-kept c = λ no. c.in-Some.ensures.some.acted.keeps no
+
+pub returns-in-Some-clause-refused : goal.returns-in-Some-clause-refused
+returns-in-Some-clause-refused c = c.in-Some.ensures.some.acted.refused

@@ -1,8 +1,7 @@
-use Rattle.awk_evaluator.proofs.Keys.{hand_updated}
 use Rattle.awk_evaluator.proofs.machine.Machine.update_element.Goals as goal
 
-pub returns-in-Some : goal.returns-in-Some
-returns-in-Some c = hand_updated c.args.operator c.args.array c.args.key.now c.args.operand.now _ c.in-Some.ensures.some c.in-Some.ensures.same c.update_at.ensures
+pub returns-then-change_at_hand : goal.returns-then-change_at_hand
+returns-then-change_at_hand c = c.change_at_hand.ensures.changed c.if-change_at_hand.true
 
-pub returns-in-None : goal.returns-in-None
-returns-in-None c = rw c.in-None.ensures.same at c.update_behind.ensures
+pub returns : goal.returns
+returns c = rw (c.change_at_hand.ensures.kept c.if-change_at_hand.false) at c.update_behind.ensures

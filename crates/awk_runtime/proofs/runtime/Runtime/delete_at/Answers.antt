@@ -3,4 +3,4 @@ use Rattle.awk_runtime.proofs.ArrayWords.{element_deleted}
 use Rattle.awk_runtime.proofs.runtime.Runtime.delete_at.Goals as goal
 
 pub returns : goal.returns
-returns c = element_deleted c.args.self.now c.args.array (str_of c.args.key.now) c.number_at-number.result c.number_at-number.ensures c.remove.ensures
+returns c = element_deleted c.args.self.now c.args.array (str_of c.args.key.now) c.number_at-number.result c.number_at-number.ensures (rw c.of.ensures at c.remove.ensures)

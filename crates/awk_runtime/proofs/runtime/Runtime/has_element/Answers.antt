@@ -1,6 +1,7 @@
 use Rattle.awk_value.specs.Values.{str_of}
+use Rattle.awk_runtime.specs.support.Keys.{key_value}
 use Rattle.awk_runtime.proofs.ArrayWords.{element_found}
 use Rattle.awk_runtime.proofs.runtime.Runtime.has_element.Goals as goal
 
 pub returns : goal.returns
-returns c = element_found c.args.self.now c.args.array (str_of c.args.key.now) c.number_at-number.result c.number_at-number.ensures c.has.ensures
+returns c = element_found c.args.self.now c.args.array (str_of (key_value c.args.self.now.current.text c.args.key)) c.number_at-number.result c.number_at-number.ensures (rw c.in_ok-key.ensures at c.has.ensures)

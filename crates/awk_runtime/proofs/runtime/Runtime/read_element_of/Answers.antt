@@ -11,4 +11,4 @@ returns-in_err-value c =
     rw (p.1, p.2, c.in_err-value.ensures.fault) (memory_changes _ refl refl (omega arith))
 
 pub returns : goal.returns
-returns c = element_read c.args.self.now c.args.array (str_of c.args.key.now) c.number_at-number.result c.number_at-number.ensures c.in_ok-value.ensures.value c.in_ok-value.ensures.made
+returns c = element_read c.args.self.now c.args.array (str_of c.args.key.now) c.number_at-number.result c.number_at-number.ensures (rw c.of.ensures at c.in_ok-value.ensures.value) (rw c.of.ensures at c.in_ok-value.ensures.made)

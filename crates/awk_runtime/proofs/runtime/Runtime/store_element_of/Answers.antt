@@ -16,4 +16,4 @@ returns-in_err-put c =
     rw (p.1, p.2, c.in_err-put.ensures.fault) (memory_changes _ refl refl (omega arith))
 
 pub returns : goal.returns
-returns c = element_stored c.args.self.now c.args.array (str_of c.args.key.now) c.number_at-number.result c.number_at-number.ensures c.args.value (rw c.in_ok-value.ensures at c.in_ok-put.ensures.put)
+returns c = element_stored c.args.self.now c.args.array (str_of c.args.key.now) c.number_at-number.result c.number_at-number.ensures c.args.value (rw (c.of.ensures, c.in_ok-value.ensures) at c.in_ok-put.ensures.put)

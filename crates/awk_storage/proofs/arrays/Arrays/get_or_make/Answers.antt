@@ -1,7 +1,7 @@
 use Rattle.std.proofs.Common.{[], ap, ◌∙◌, List, length, ◌<◌, ◌≡◌, set, take, get_or, arith}
 use Rattle.std.proofs.lemmas.List.{get_or_read}
 use Rattle.awk_value.specs.Arrays.{Array, with_key}
-use Rattle.awk_value.specs.Values.{str_of}
+use Rattle.awk_storage.specs.definitions.Subscripts.{key_of}
 use Rattle.awk_storage.specs.support.Tables.{array_of}
 use Rattle.awk_storage.proofs.TableLemmas.{changed}
 use Rattle.awk_storage.proofs.arrays.Arrays.get_or_make.Goals as goal
@@ -11,7 +11,7 @@ returns-clause-made c =
     let b = c.self.inside in
     let tables : List Array = b.tables.items in
     let old : Array = c.index_mut.result.now in
-    let f = λ (array : Array). with_key array (str_of c.args.key.now) in
+    let f = λ (array : Array). with_key array (key_of c.args.key) in
     let within : c.args.number < length tables = omega (arith, c.if-number-self.false, c.self.invariant.0) in
     let at : old ≡ get_or tables c.args.number [] = get_or_read tables c.args.number old within c.index_mut.ensures.value [] in
     ap (λ (array : Array). take b.live (set tables c.args.number array)) c.in_ok-value.ensures.made
