@@ -9,10 +9,10 @@ use Rattle.awk_streams.proofs.OpeningsLemmas.{receives-more, begins_part}
 
 -- bytes for two outputs come in any order
 
-receives_here : (id : ℕ) (bytes : List ℕ) (i : ℕ) (o : Opening) (older : List (ℕ × Opening)) → i ≡ id → receives id bytes ((i, o) ∷ older) ≡ (i, record { output = o.output; bytes = o.bytes ++ bytes }) ∷ older
+pub receives_here : (id : ℕ) (bytes : List ℕ) (i : ℕ) (o : Opening) (older : List (ℕ × Opening)) → i ≡ id → receives id bytes ((i, o) ∷ older) ≡ (i, record { output = o.output; bytes = o.bytes ++ bytes }) ∷ older
 receives_here id bytes i o older same = cond-true _ _ _ (eq-eqb i id same)
 
-receives_there : (id : ℕ) (bytes : List ℕ) (i : ℕ) (o : Opening) (older : List (ℕ × Opening)) → i ≢ id → receives id bytes ((i, o) ∷ older) ≡ (i, o) ∷ receives id bytes older
+pub receives_there : (id : ℕ) (bytes : List ℕ) (i : ℕ) (o : Opening) (older : List (ℕ × Opening)) → i ≢ id → receives id bytes ((i, o) ∷ older) ≡ (i, o) ∷ receives id bytes older
 receives_there id bytes i o older differs = cond-false _ _ _ (ne_eqb i id differs)
 
 pub receives-swap : (i j : ℕ) (xs ys : List ℕ) (os : List (ℕ × Opening)) → i ≢ j → receives i xs (receives j ys os) ≡ receives j ys (receives i xs os)

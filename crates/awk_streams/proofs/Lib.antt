@@ -36,5 +36,5 @@ pub mod FinishLemmas
 pub mod EmptiedLemmas
 pub mod FlushLemmas
 pub mod FlushedLemmas
-mod LostLemmas
+pub mod LostLemmas
 mod EndLosses

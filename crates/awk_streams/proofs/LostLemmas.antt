@@ -13,7 +13,7 @@ use Rattle.awk_streams.specs.definitions.Outputs.{FailsAtOutput}
 use Rattle.awk_streams.specs.definitions.Streams.{with_held, place_of, place_of_some}
 use Rattle.awk_streams.specs.definitions.Lost.{is_number, has_failed, is_lost, AreSpent, Spares}
 use Rattle.awk_streams.specs.support.Held.{AreOtherOutputs, ChangesHeld}
-use Rattle.awk_streams.proofs.HeldLemmas.{length-receives, others_of, before_change, after_change}
+use Rattle.awk_streams.proofs.HeldLemmas.{receives_here, receives_there, length-receives, others_of, before_change, after_change}
 use Rattle.awk_streams.proofs.PlaceLemmas.{length-in_order, place-held}
 
 true_false : {P : Type 0} → true ≡ false → P
@@ -26,7 +26,7 @@ left_false : (x y : Bool) → (x || y) ≡ false → x ≡ false
 left_false true y e = true_false e
 left_false false y e = refl
 
-pub right_false : (x y : Bool) → (x || y) ≡ false → y ≡ false
+right_false : (x y : Bool) → (x || y) ≡ false → y ≡ false
 right_false true y e = true_false e
 right_false false y e = e
 
@@ -113,12 +113,6 @@ before_last [] (y ∷ ys) o n long same = absurd cc
 before_last (x ∷ xs) [] o n long same = absurd cc
 before_last (x ∷ xs) (y ∷ ys) o zero long same = same
 before_last (x ∷ xs) (y ∷ ys) o (suc n) long same = (let shorter : length xs ≡ length ys = omega (arith, long) in before_last xs ys o n shorter same)
-
-receives_here : (id : ℕ) (bytes : List ℕ) (i : ℕ) (o : Opening) (older : List (ℕ × Opening)) → i ≡ id → receives id bytes ((i, o) ∷ older) ≡ (i, record { output = o.output; bytes = o.bytes ++ bytes }) ∷ older
-receives_here id bytes i o older same = cond-true _ _ _ (eq-eqb i id same)
-
-receives_there : (id : ℕ) (bytes : List ℕ) (i : ℕ) (o : Opening) (older : List (ℕ × Opening)) → i ≢ id → receives id bytes ((i, o) ∷ older) ≡ (i, o) ∷ receives id bytes older
-receives_there id bytes i o older differs = cond-false _ _ _ (ne_eqb i id differs)
 
 received_but : (id : ℕ) (xs ys : List ℕ) (os : List (ℕ × Opening)) (n : ℕ) → is_number n (place_of id os) ≡ false → slice_get (in_order (receives id xs os)) n ≡ slice_get (in_order (receives id ys os)) n
 received_but id xs ys [] n other = refl
