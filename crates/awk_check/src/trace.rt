@@ -97,9 +97,9 @@ impl Trace {
 
     fn keep_halt(&mut self, machine: &Machine) -> Result<(), AllocError> {
         let mut callers = Vec::new(self.alloc);
-        let entries = machine.calls.as_slice();
+        let entries = machine.runtime.frames.entries();
         for entry in entries.iter().rev().take(CALLERS_KEPT) {
-            callers.push(entry.next)?;
+            callers.push(entry.caller.next)?;
         }
         self.halted = Some(Halted {
             halt: machine.halt,

@@ -54,7 +54,7 @@ module _ (list : List Operand) {text : List ℕ} {m : Machine} (j : Joins list m
   appended_at : (p : Place) (key : Value) {m' : Runtime} (h : AppendsIn p key text m.runtime m') → Changes (append_operands_at m.runtime.names.scalars p key list) m.runtime m' (Ok h.after)
   appended_at p key {m' = m'} h = then_changes _ h.read (then_changes _ j.read (subst (λ (l : List ℕ). Changes (assign_by_at m.runtime.names.scalars None p key (value.Text (str_of h.before ++ l))) m.runtime m' (Ok h.after)) j.text h.appends))
 
-  pub variable_appended : (x : Variable) {m' : Machine} → AppendsIn (place.Variable x) value.Nothing text m.runtime m'.runtime → m'.operands ≡ m.operands → m'.calls ≡ m.calls → Done (λ r. AppendsOperands (target.Variable x) list m r m') (Ok tt)
+  pub variable_appended : (x : Variable) {m' : Machine} → AppendsIn (place.Variable x) value.Nothing text m.runtime m'.runtime → m'.operands ≡ m.operands → m'.runtime.frames.callers ≡ m.runtime.frames.callers → Done (λ r. AppendsOperands (target.Variable x) list m r m') (Ok tt)
   variable_appended x h operands calls = record { done = (h.after, record { operands = operands; calls = calls; changes = appended_at (place.Variable x) value.Nothing h }) }
 
   pub element_appended : (a : Array) (key : Key) {m' : Machine} → AppendsBytes a key text m m' → Done (λ r. AppendsOperands (target.Element a key) list m r m') (Ok tt)
@@ -76,14 +76,14 @@ module _ {m m1 m2 m' : Machine} (before : Keeps m m1) (behind : Keeps m2 m') {ru
 
 -- behind a step
 
-module _ {m m1 : Machine} (operands : m1.operands ≡ m.operands) (calls : m1.calls ≡ m.calls) (t : Target) (list : List Operand) where
+module _ {m m1 : Machine} (operands : m1.operands ≡ m.operands) (calls : m1.runtime.frames.callers ≡ m.runtime.frames.callers) (t : Target) (list : List Operand) where
   pub not_spent : {h : Halt} → Spends m.runtime m1.runtime (Err h) → Done (λ r. SpendsAndAppends t list m r m1) (Err h)
   not_spent s = record { done = record { operands = tt; calls = tt; changes = ends_changes _ s.changes } }
 
   spent_leaves : {m' : Machine} (r : Result Value Halt) → Spends m.runtime m1.runtime (Ok tt) → AppendsOperands t list m1 r m' → SpendsAndAppends t list m r m'
   spent_leaves {m' = m'} r s h = by r h.operands h.calls (then_changes _ s.changes (subst (λ (names : Naming). Changes (append_operands names.scalars t list) m1.runtime m'.runtime r) s.changes.names h.changes))
     where
-      by : (q : Result Value Halt) → OnOk q (m'.operands ≡ m1.operands) → OnOk q (m'.calls ≡ m1.calls) → Changes (append_by_step m.runtime.names.scalars t list) m.runtime m'.runtime q → SpendsAndAppends t list m q m'
+      by : (q : Result Value Halt) → OnOk q (m'.operands ≡ m1.operands) → OnOk q (m'.runtime.frames.callers ≡ m1.runtime.frames.callers) → Changes (append_by_step m.runtime.names.scalars t list) m.runtime m'.runtime q → SpendsAndAppends t list m q m'
       by (Ok w) o k changes = record { operands = o ∙ operands; calls = k ∙ calls; changes = changes }
       by (Err e) o k changes = record { operands = tt; calls = tt; changes = changes }
 
@@ -106,7 +106,7 @@ pub refused_leaves : {B : Type 0} (run : Run Value) {m m1 : Machine} (m' : Machi
 refused_leaves run m' (Ok b) same h = tt
 refused_leaves run m' (Err e) same h = ends_leaves (subst (λ (x : Machine). Changes run x.runtime m'.runtime (Err e)) same (h run))
 
-pub leaves : {run : Run Value} {m m' : Machine} (r : Result Value Halt) → Changes run m.runtime m'.runtime r → m'.operands ≡ m.operands → m'.calls ≡ m.calls → Leaves run m r m'
+pub leaves : {run : Run Value} {m m' : Machine} (r : Result Value Halt) → Changes run m.runtime m'.runtime r → m'.operands ≡ m.operands → m'.runtime.frames.callers ≡ m.runtime.frames.callers → Leaves run m r m'
 leaves (Ok w) changes operands calls = record { operands = operands; calls = calls; changes = changes }
 leaves (Err e) changes operands calls = record { operands = tt; calls = tt; changes = changes }
 
@@ -149,7 +149,7 @@ module _ (p : Place) (key : Value) (list : List Operand) (m : Machine) {m1 m2 : 
       let unread = subst (λ (n : Naming). Changes (operand_values n.scalars list >>= λ ws. ret (value.Text (concat (map str_of ws)))) m1.runtime m2.runtime (Err h)) read.names q.changes in
       ends_leaves (then_changes _ read (same_changes _ _ (λ s holds. sym (between p key old list names s)) (ends_changes (put_text p key old list names) unread)))
 
-  module _ {b : Value} (q : ReadsJoined list m1 (Ok b) m2) (same : m1.operands ≡ m.operands) (calls : m1.calls ≡ m.calls) (m' : Machine) where
+  module _ {b : Value} (q : ReadsJoined list m1 (Ok b) m2) (same : m1.operands ≡ m.operands) (calls : m1.runtime.frames.callers ≡ m.runtime.frames.callers) (m' : Machine) where
     assigned : (r : Result Value Halt) → AppendsBehind p key old b m2 r m' → Changes (append_operands_at m.runtime.names.scalars p key list) m.runtime m'.runtime r
     assigned r h =
         let names = m.runtime.names in

@@ -161,7 +161,7 @@ top_taken [] there = absurd (omega arith)
 top_taken (x ∷ vs) there = refl
 
 pub position_replaces : {a : Operand} {part : Value} {m m' : Machine} {n : ℤ} → HasText a (λ text. n ≡ pos (position_of (str_of part) text)) m → part ≡ first m.operands.values → 0 < length m.operands.values
-    → m'.operands ≡ record m.operands { values = value.Number n ∷ drop 1 m.operands.values } → m'.calls ≡ m.calls → m'.runtime ≡ m.runtime → PutsApplied Index (a ∷ []) 1 m m'
+    → m'.operands ≡ record m.operands { values = value.Number n ∷ drop 1 m.operands.values } → m'.runtime.frames.callers ≡ m.runtime.frames.callers → m'.runtime ≡ m.runtime → PutsApplied Index (a ∷ []) 1 m m'
 position_replaces {part = part} {m = m} {n = n} h top there operands calls runtime = record {
   value = value.Number n;
   operands = operands;
@@ -188,7 +188,7 @@ part_applied p {part = part} h are q = record {
 }
 
 pub part_replaces : {a : Operand} (p : Positions) (count : ℕ) {part : Value} {m m' : Machine} → HasText a (λ text. part ≡ value.Text (substr_of text p.start p.count)) m → taken count m.operands.values ≡ position_values p
-    → m'.operands ≡ record m.operands { values = part ∷ drop count m.operands.values } → m'.calls ≡ m.calls → m'.runtime ≡ m.runtime → PutsApplied Substr (a ∷ []) count m m'
+    → m'.operands ≡ record m.operands { values = part ∷ drop count m.operands.values } → m'.runtime.frames.callers ≡ m.runtime.frames.callers → m'.runtime ≡ m.runtime → PutsApplied Substr (a ∷ []) count m m'
 part_replaces p count {part = part} h are operands calls runtime = record {
   value = part;
   operands = operands;
@@ -251,8 +251,8 @@ values_at (v ∷ vs) (suc i) x h e = values_at vs i x (omega (arith, h)) e
 -- what a function makes of them
 
 module _ {f : BuiltIn} {list : Vec Operand} {count : ℕ} {m m1 : Machine} where
-  pub applied : {ws all : List Value} (m2 : Machine) {m3 : Machine} {w : Value} → ReadsAll list.items m (Ok ws) m1 → all ≡ ws ++ taken count m1.operands.values → Changes (lift (applied_all f all)) m1.runtime m2.runtime (Ok w) → m2.operands ≡ m1.operands → m2.calls ≡ m1.calls
-      → m3.operands ≡ record m2.operands { values = drop count m2.operands.values } → m3.calls ≡ m2.calls → m3.runtime ≡ m2.runtime → Computes (v.ApplyTo f list count) m (Ok w) m3
+  pub applied : {ws all : List Value} (m2 : Machine) {m3 : Machine} {w : Value} → ReadsAll list.items m (Ok ws) m1 → all ≡ ws ++ taken count m1.operands.values → Changes (lift (applied_all f all)) m1.runtime m2.runtime (Ok w) → m2.operands ≡ m1.operands → m2.runtime.frames.callers ≡ m1.runtime.frames.callers
+      → m3.operands ≡ record m2.operands { values = drop count m2.operands.values } → m3.runtime.frames.callers ≡ m2.runtime.frames.callers → m3.runtime ≡ m2.runtime → Computes (v.ApplyTo f list count) m (Ok w) m3
   applied {ws = ws} {all = all} m2 {m3 = m3} {w = w} p are made operands2 calls2 operands3 calls3 runtime3 =
       let left : OperandsView → OperandsView = λ o. record o { values = drop count o.values } in
       let is : all ≡ ws ++ taken count m.operands.values = are ∙ ap (λ (o : OperandsView). ws ++ taken count o.values) p.operands in
@@ -265,7 +265,7 @@ module _ {f : BuiltIn} {list : Vec Operand} {count : ℕ} {m m1 : Machine} where
       ended h (λ tables functions. then_changes _ p.changes (subst (λ (l : List Value). Changes (lift (applied_all f l)) m1.runtime m2.runtime (Err h)) is made))
 
   pub not_gathered : {ws : List Value} → ReadsAll list.items m (Ok ws) m1 → Computes (v.ApplyTo f list count) m (Err (halt.Fault OutOfMemory)) m1
-  not_gathered p = ended _ (λ tables functions. memory_changes _ p.changes.streams p.changes.names p.changes.steps)
+  not_gathered p = ended _ (λ tables functions. memory_changes _ p.changes.streams p.changes.names p.changes.callers p.changes.steps)
 
   pub not_all_read : {h : Halt} → ReadsAll list.items m (Err h) m1 → Computes (v.ApplyTo f list count) m (Err h) m1
   not_all_read {h = h} p = ended h (λ tables functions. ends_changes _ p.changes)

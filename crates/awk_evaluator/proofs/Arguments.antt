@@ -65,7 +65,7 @@ behind_given form.Value given args = drop-drop 1 given args
 behind_given (form.Array a) given args = let e : given + 0 ≡ given = omega arith in ap (λ n. drop n args) (sym e)
 
 with_more : (l : Local) (ls : List Local) (m : Runtime) → with_all (l ∷ ls) m ≡ with_all ls (with_given l m)
-with_more l ls m = ap (λ (staged : List Local). record m { frames = record { frames = m.frames.frames; staged = staged } }) (sym (append_assoc m.frames.staged (l ∷ []) ls))
+with_more l ls m = ap (λ (staged : List Local). record m { frames = record m.frames { staged = staged } }) (sym (append_assoc m.frames.staged (l ∷ []) ls))
 
 -- one more is given
 pub given_more : (fs : List ArgumentForm) (args : List Value) (i given one : ℕ) (calls : FramesView) (m m' goal : Runtime) {f : ArgumentForm} → slice_get fs i ≡ Some f → one ≡ values_among (f ∷ []) → m.frames.frames ≡ calls.frames
@@ -84,18 +84,18 @@ given_more fs args i given one calls m m' goal {f = f} at is same gives e =
 
 pub given_none : (fs : List ArgumentForm) (args : List Value) (i given : ℕ) (calls : FramesView) (m goal : Runtime) → slice_get fs i ≡ None → with_all (kept_all (drop i fs) (drop given args) calls) m ≡ goal → m ≡ goal
 given_none fs args i given calls m goal none e =
-    sym (ap (λ (staged : List Local). record m { frames = record { frames = m.frames.frames; staged = staged } }) (append-nil m.frames.staged))
+    sym (ap (λ (staged : List Local). record m { frames = record m.frames { staged = staged } }) (append-nil m.frames.staged))
     ∙ sym (ap (λ gs. with_all (kept_all gs (drop given args) calls) m) (drop_none fs i none)) ∙ e
 
 -- all are given
 pub all_given : {fs : List ArgumentForm} {m m' : Machine} (count : ℕ) → count ≡ values_among fs → m'.runtime ≡ with_all (kept_all fs (taken count m.operands.values) m.runtime.frames) m.runtime
-    → m'.operands ≡ record m.operands { values = drop count m.operands.values } → m'.calls ≡ m.calls → GivesAll fs m (Ok tt) m'
-all_given {fs = fs} {m = m} count is given operands calls =
+    → m'.operands ≡ record m.operands { values = drop count m.operands.values } → GivesAll fs m (Ok tt) m'
+all_given {fs = fs} {m = m} count is given operands =
     let dropped : ℕ → OperandsView = λ n. record { values = drop n m.operands.values; below = m.operands.below } in
     record {
       given = given ∙ ap (λ n. with_all (kept_all fs (taken n m.operands.values) m.runtime.frames) m.runtime) is;
       operands = operands ∙ ap dropped is;
-      calls = calls;
+      calls = ap (λ (x : Runtime). x.frames.callers) given;
       names = ap (λ (x : Runtime). x.names) given;
       steps = (let e = ap (λ (x : Runtime). x.steps) given in omega (arith, e));
       streams = ap (λ (x : Runtime). x.streams) given;
@@ -108,11 +108,11 @@ first_taken : (vs : List Value) → first (taken 1 vs) ≡ first vs
 first_taken [] = refl
 first_taken (v ∷ vs) = refl
 
-pub top_given : {m m' : Machine} {r : Result (Unit {0}) Halt} → Gives (local.Value (first m.operands.values)) m.runtime m'.runtime r → m'.operands ≡ record m.operands { values = drop 1 m.operands.values } → m'.calls ≡ m.calls
+pub top_given : {m m' : Machine} {r : Result (Unit {0}) Halt} → Gives (local.Value (first m.operands.values)) m.runtime m'.runtime r → m'.operands ≡ record m.operands { values = drop 1 m.operands.values }
     → GivesAll (form.Value ∷ []) m r m'
-top_given {m = m} {m' = m'} {r = Ok u} g operands calls =
-    all_given 1 refl (g.given ∙ ap (λ v. with_given (local.Value v) m.runtime) (sym (first_taken m.operands.values))) operands calls
-top_given {m = m} {m' = m'} {r = Err h} g operands calls = record {
+top_given {m = m} {m' = m'} {r = Ok u} g operands =
+    all_given 1 refl (g.given ∙ ap (λ v. with_given (local.Value v) m.runtime) (sym (first_taken m.operands.values))) operands
+top_given {m = m} {m' = m'} {r = Err h} g operands = record {
   given = tt;
   operands = tt;
   calls = tt;
@@ -130,14 +130,14 @@ two_kept (v ∷ []) calls left right = cc
 two_kept (v ∷ w ∷ vs) calls {a = a} left right = ap (λ (x : Value). local.Value x ∷ local.Value v ∷ []) left ∙ ap (λ (x : Value). local.Value (value.Number a) ∷ local.Value x ∷ []) right
 
 pub two_given : {m m' : Machine} {m1 : Runtime} {a b : ℤ} {r : Result (Unit {0}) Halt} → second m.operands.values ≡ value.Number a → first m.operands.values ≡ value.Number b → m1 ≡ with_given (local.Value (value.Number a)) m.runtime
-    → Gives (local.Value (value.Number b)) m1 m'.runtime r → m'.operands ≡ record m.operands { values = drop 1 (drop 1 m.operands.values) } → m'.calls ≡ m.calls → GivesAll (form.Value ∷ form.Value ∷ []) m r m'
-two_given {m = m} {m' = m'} {m1 = m1} {a = a} {b = b} {r = Ok u} left right one g operands calls =
+    → Gives (local.Value (value.Number b)) m1 m'.runtime r → m'.operands ≡ record m.operands { values = drop 1 (drop 1 m.operands.values) } → GivesAll (form.Value ∷ form.Value ∷ []) m r m'
+two_given {m = m} {m' = m'} {m1 = m1} {a = a} {b = b} {r = Ok u} left right one g operands =
     let x = local.Value (value.Number a) in
     let y = local.Value (value.Number b) in
     all_given 2 refl
     (g.given ∙ ap (λ (k : Runtime). with_given y k) one ∙ sym (with_more x (y ∷ []) m.runtime) ∙ ap (λ (ls : List Local). with_all ls m.runtime) (sym (two_kept m.operands.values m.runtime.frames left right)))
-    (operands ∙ ap (λ (vs : List Value). record m.operands { values = vs }) (drop-drop 1 1 m.operands.values)) calls
-two_given {m = m} {m' = m'} {m1 = m1} {r = Err h} left right one g operands calls =
+    (operands ∙ ap (λ (vs : List Value). record m.operands { values = vs }) (drop-drop 1 1 m.operands.values))
+two_given {m = m} {m' = m'} {m1 = m1} {r = Err h} left right one g operands =
     let same = g.unchanged ∙ one in
     record {
       given = tt;
@@ -168,4 +168,4 @@ no_form [] e = refl
 no_form (f ∷ fs) e = let none = eqb-true (length (f ∷ fs)) 0 e in absurd (omega (arith, none))
 
 pub nothing_given : {m : Machine} → GivesAll [] m (Ok tt) m
-nothing_given {m = m} = all_given 0 refl (ap (λ (staged : List Local). record m.runtime { frames = record { frames = m.runtime.frames.frames; staged = staged } }) (sym (append-nil m.runtime.frames.staged))) refl refl
+nothing_given {m = m} = all_given 0 refl (ap (λ (staged : List Local). record m.runtime { frames = record m.runtime.frames { staged = staged } }) (sym (append-nil m.runtime.frames.staged))) refl

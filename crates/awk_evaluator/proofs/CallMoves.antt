@@ -26,8 +26,8 @@ use Rattle.awk_resolve.specs.Plans.{array_parameters}
 use Rattle.awk_resolve.proofs.Calculus.{assoc_at, given, later_same, later_kept, first_same}
 use Rattle.awk_resolve.proofs.Calling.{locals_fit}
 use Rattle.awk_runtime.specs.declared.runtime.Runtime.{Runtime}
-use Rattle.awk_runtime.specs.Simulation.{Simulates, Changes}
-use Rattle.awk_runtime.proofs.Composition.{then_simulates, ends_simulates, change_simulates}
+use Rattle.awk_runtime.specs.Simulation.{Simulates, Changes, ChangesCalls}
+use Rattle.awk_runtime.proofs.Composition.{then_simulates, ends_simulates, calls_simulate}
 use Rattle.awk_runtime.proofs.CallLemmas.{given_later}
 use Rattle.awk_evaluator.specs.declared.machine.Machine.{Machine}
 use Rattle.awk_evaluator.specs.declared.machine.Move.TheVariants as move
@@ -170,7 +170,7 @@ caller_of next fs m = record { next = next; values = drop (values_among fs) m.op
 module _ {is_logged : Type 0} {plan : Plan} {i next : ℕ} {fs : Vec ArgumentForm} {f : PlannedFunction} (at : slice_get plan.functions.items i ≡ Some f) (fits : CallFits (slice_get (array_parameters plan.functions.items) i) fs.items) where
   module _ (m m' : Machine) (k : WorldState) where
     module _ (t : Tables) (ds : List Definition) (arrays : t.arrays ≡ m.runtime.names.arrays) (st : StandsFor t ds plan i f) where
-      entered_rest : {new : Runtime} {after : WorldState} {r : Result Value Halt} → Changes (begin_call st.parameters f.height fs.items m) m.runtime m'.runtime (Ok tt) → m'.runtime.steps < m.runtime.steps
+      entered_rest : {new : Runtime} {after : WorldState} {r : Result Value Halt} → ChangesCalls (begin_call st.parameters f.height fs.items m) m.runtime m'.runtime (Ok tt) → m'.runtime.steps < m.runtime.steps
           → Rest t ds plan is_logged (AtPlace f.body) m'.operands.values ((caller_of next fs.items m) ∷ stack_of m) m'.runtime k new after r
           → Rest t ds plan is_logged (AtNode (n.Value (v.Call i fs) next)) m.operands.values (stack_of m) m.runtime k new after r
       entered_rest {new = new} {after = after} {r = r} changes less d = record { does = λ b bs p q. by b.calls b bs refl p q }
@@ -185,11 +185,11 @@ module _ {is_logged : Type 0} {plan : Plan} {i next : ℕ} {fs : Vec ArgumentFor
               let z : Run Value = cont t ds plan (record { calls = c; turns = b.turns }) f.body m'.operands.values >>= λ w. resume t ds plan (pushed_bound b bs) ((caller_of next fs.items m) ∷ stack_of m) w in
               same_simulates _ (begun_run t ds plan st fs.items (args_of fs.items m) >>= λ _. z)
               (λ s h. called_at t ds plan st fs.items (args_of fs.items m) (forms_fit plan.functions.items i fs.items at fits) c b bs (caller_of next fs.items m) (stack_of m) m'.operands.values s is (low_in h.steps turns) (h.array_names ∙ sym arrays))
-              (then_simulates (λ _. z) (change_simulates changes)
+              (then_simulates (λ _. z) (calls_simulate changes)
               (d.does (record { calls = c; turns = b.turns }) (pushed_bound b bs) (omega (arith, is, calls, less), omega (arith, turns, less))
               (pushed_above {b = b} {bs = bs} (above_less low p) (λ j. above_less low (q j)))))
 
-      failed_rest : {h : Halt} → Changes (begin_call st.parameters f.height fs.items m) m.runtime m'.runtime (Err h) → Rest t ds plan is_logged (AtNode (n.Value (v.Call i fs) next)) m.operands.values (stack_of m) m.runtime k m'.runtime k (Err h)
+      failed_rest : {h : Halt} → ChangesCalls (begin_call st.parameters f.height fs.items m) m.runtime m'.runtime (Err h) → Rest t ds plan is_logged (AtNode (n.Value (v.Call i fs) next)) m.operands.values (stack_of m) m.runtime k m'.runtime k (Err h)
       failed_rest {h = h} changes = record { does = λ b bs p q. by b.calls b bs refl p }
         where
           by : (c : ℕ) (b : Bound) (bs : Bounds) → b.calls ≡ c → IsAbove m.runtime.steps b
@@ -201,13 +201,13 @@ module _ {is_logged : Type 0} {plan : Plan} {i next : ℕ} {fs : Vec ArgumentFor
               same_simulates _ (begun_run t ds plan st fs.items (args_of fs.items m) >>= λ _. z)
               (λ s r. assoc_at (call_run t ds plan st fs.items (args_of fs.items m) b) q (λ w. resume t ds plan bs (stack_of m) w) s
               ∙ called_stuck t ds plan st fs.items (args_of fs.items m) b (λ w. q w >>= λ x. resume t ds plan bs (stack_of m) x) z s (none_in r.steps calls is))
-              (ends_simulates (λ _. z) (change_simulates changes))
+              (ends_simulates (λ _. z) (calls_simulate changes))
           by (suc c) b bs is p =
               let turns = p.1 in
               let z : Run Value = cont t ds plan (record { calls = c; turns = b.turns }) f.body m'.operands.values >>= λ w. resume t ds plan (pushed_bound b bs) ((caller_of next fs.items m) ∷ stack_of m) w in
               same_simulates _ (begun_run t ds plan st fs.items (args_of fs.items m) >>= λ _. z)
               (λ s r. called_at t ds plan st fs.items (args_of fs.items m) (forms_fit plan.functions.items i fs.items at fits) c b bs (caller_of next fs.items m) (stack_of m) m'.operands.values s is (low_in r.steps turns) (r.array_names ∙ sym arrays))
-              (ends_simulates (λ _. z) (change_simulates changes))
+              (ends_simulates (λ _. z) (calls_simulate changes))
 
   pub call_on : {m m' : Machine} {k : WorldState} {body : ℕ} → BeginsCall f fs.items next m (Ok body) m' → Moves is_logged plan (AtNode (n.Value (v.Call i fs) next)) m k (move.Up body) m' k
   call_on {m = m} {m' = m'} {k = k} {body = body} x = record {

@@ -70,7 +70,7 @@ module _ {is_logged : Type 0} {plan : Plan} where
                 ap (λ s. choose s (cont tables ds plan b here left) (cont tables ds plan b other left)) e
                 ∙ chosen_cont here other tables ds plan b t left
                 ∙ ap (λ (o : OperandsView). cont tables ds plan b (if t then here else other) o.values) (sym c.operands))
-                (ap (λ es. seen_of m'.operands es) c.calls ∙ ap (λ (o : OperandsView). seen_of o m.calls) c.operands);
+                (ap (λ es. seen_of m'.operands es) c.calls ∙ ap (λ (o : OperandsView). seen_of o m.runtime.frames.callers) c.operands);
           };
         })
 
@@ -118,7 +118,7 @@ module _ {is_logged : Type 0} {plan : Plan} where
 
   module _ {node : Node} {i : ℕ} (run : Tables → Run Value) (below : (at : ℕ) → AreBelow at node → i < at)
       (is : (tables : Tables) (ds : List Definition) (b : Bound) (vs : List Value) → begun tables ds plan (AtNode node) b vs ≡ (run tables >>= λ _. cont tables ds plan b i vs)) where
-    ran_on : {m m' : Machine} {k : WorldState} {w : Value} → m'.operands ≡ m.operands → m'.calls ≡ m.calls → ((tables : Tables) → Changes (run (tables_in m.runtime.names tables)) m.runtime m'.runtime (Ok w)) → Moves is_logged plan (AtNode node) m k (move.On i) m' k
+    ran_on : {m m' : Machine} {k : WorldState} {w : Value} → m'.operands ≡ m.operands → m'.runtime.frames.callers ≡ m.runtime.frames.callers → ((tables : Tables) → Changes (run (tables_in m.runtime.names tables)) m.runtime m'.runtime (Ok w)) → Moves is_logged plan (AtNode node) m k (move.On i) m' k
     ran_on {m = m} {m' = m'} operands calls changes = record {
       moves = record {
         less = below;
@@ -126,7 +126,7 @@ module _ {is_logged : Type 0} {plan : Plan} where
         leads = leads_on (λ tables functions. run tables) (λ tables ds b _. cont tables ds plan b i m.operands.values) (λ tables ds b. is tables ds b m.operands.values)
             (λ tables functions. change_simulates (changes tables))
             (λ tables ds b. ap (λ (o : OperandsView). cont tables ds plan b i o.values) (sym operands))
-            (ap (λ es. seen_of m'.operands es) calls ∙ ap (λ (o : OperandsView). seen_of o m.calls) operands);
+            (ap (λ es. seen_of m'.operands es) calls ∙ ap (λ (o : OperandsView). seen_of o m.runtime.frames.callers) operands);
       };
     }
 
@@ -165,7 +165,7 @@ module _ {is_logged : Type 0} {plan : Plan} where
         leads = leads_on (λ tables functions. value_of tables functions x m.operands.values) (λ tables ds b _. cont tables ds plan b i (drop (popped x) m.operands.values)) (λ tables ds b. is tables ds b m.operands.values)
             (λ tables functions. change_simulates (c.changes tables functions))
             (λ tables ds b. ap (λ (s : OperandsView). cont tables ds plan b i s.values) (sym c.operands))
-            (ap (λ es. seen_of m'.operands es) c.calls ∙ ap (λ (s : OperandsView). seen_of s m.calls) c.operands);
+            (ap (λ es. seen_of m'.operands es) c.calls ∙ ap (λ (s : OperandsView). seen_of s m.runtime.frames.callers) c.operands);
       };
     }
 
@@ -197,7 +197,7 @@ module _ {is_logged : Type 0} {plan : Plan} where
         leads = leads_on (λ tables functions. append_to tables.names x (taken count m.operands.values)) (λ tables ds b _. cont tables ds plan b i (drop count m.operands.values)) (λ tables ds b. refl)
             (λ tables functions. change_simulates c.changes)
             (λ tables ds b. ap (λ (s : OperandsView). cont tables ds plan b i s.values) (sym c.operands))
-            (ap (λ es. seen_of m'.operands es) c.calls ∙ ap (λ (s : OperandsView). seen_of s m.calls) c.operands);
+            (ap (λ es. seen_of m'.operands es) c.calls ∙ ap (λ (s : OperandsView). seen_of s m.runtime.frames.callers) c.operands);
       };
     }
 
@@ -215,7 +215,7 @@ module _ {is_logged : Type 0} {plan : Plan} where
         leads = leads_on (λ tables functions. print_operands tables.names list.items) (λ tables ds b _. cont tables ds plan b i m.operands.values) (λ tables ds b. refl)
             (λ tables functions. c.simulates)
             (λ tables ds b. ap (λ (s : OperandsView). cont tables ds plan b i s.values) (sym c.operands))
-            (ap (λ es. seen_of m'.operands es) c.calls ∙ ap (λ (s : OperandsView). seen_of s m.calls) c.operands);
+            (ap (λ es. seen_of m'.operands es) c.calls ∙ ap (λ (s : OperandsView). seen_of s m.runtime.frames.callers) c.operands);
       };
     }
 

@@ -20,13 +20,14 @@ use Rattle.awk_semantics.specs.Semantics.{Functions}
 use Rattle.awk_resolve.specs.declared.node.ValueNode.{ValueNode}
 use Rattle.awk_resolve.specs.declared.node.EffectNode.{EffectNode}
 use Rattle.awk_resolve.specs.Nodes.{Tables, value_of, popped, first, second, operands, place_operands, pattern_operands, substitute_by, effect_of, dropped}
+use Rattle.awk_runtime.specs.support.Updates.{Gives}
 use Rattle.awk_runtime.specs.support.Simulation.{IsReady, Simulates, Changes}
 use Rattle.awk_streams.specs.WorldState.{WorldState}
 use Rattle.awk_evaluator.specs.declared.machine.Machine.{Machine}
 use Rattle.awk_evaluator.specs.support.Rest.{tables_in}
 use Rattle.awk_evaluator.specs.support.Moves.{Computes, Evaluates, Acts, Performs}
 
-pub computed : {x : ValueNode} {m m' : Machine} (r : Result Value Halt) → m'.operands ≡ record m.operands { values = drop (popped x) m.operands.values } → m'.calls ≡ m.calls → ((tables : Tables) (functions : Functions) → Changes (value_of (tables_in m.runtime.names tables) functions x m.operands.values) m.runtime m'.runtime r) → Computes x m r m'
+pub computed : {x : ValueNode} {m m' : Machine} (r : Result Value Halt) → m'.operands ≡ record m.operands { values = drop (popped x) m.operands.values } → m'.runtime.frames.callers ≡ m.runtime.frames.callers → ((tables : Tables) (functions : Functions) → Changes (value_of (tables_in m.runtime.names tables) functions x m.operands.values) m.runtime m'.runtime r) → Computes x m r m'
 computed (Ok v) o c h = record { operands = o; calls = c; changes = h }
 computed (Err e) o c h = record { operands = tt; calls = tt; changes = h }
 
@@ -86,7 +87,7 @@ in_place tables all ere p vs vs' operand replacement old rest e1 e2 e3 e4 e5 h =
 
 -- effects
 
-pub performed : {is_logged : Type 0} {x : EffectNode} {m m' : Machine} {k k' : WorldState} (r : Result (Unit {0}) Halt) → m'.operands ≡ record m.operands { values = drop (dropped x) m.operands.values } → m'.calls ≡ m.calls → ((functions : Functions) → Simulates is_logged m.runtime k m'.runtime k' r (effect_of functions x m.operands.values)) → Performs is_logged x m k r m' k'
+pub performed : {is_logged : Type 0} {x : EffectNode} {m m' : Machine} {k k' : WorldState} (r : Result (Unit {0}) Halt) → m'.operands ≡ record m.operands { values = drop (dropped x) m.operands.values } → m'.runtime.frames.callers ≡ m.runtime.frames.callers → ((functions : Functions) → Simulates is_logged m.runtime k m'.runtime k' r (effect_of functions x m.operands.values)) → Performs is_logged x m k r m' k'
 performed (Ok u) o c h = record { operands = o; calls = c; simulates = h }
 performed (Err e) o c h = record { operands = tt; calls = tt; simulates = h }
 
@@ -113,9 +114,14 @@ computed_ready h ready = ready_same (h.changes no_tables no_functions).streams r
 pub computed_evaluates : {is_logged : Type 0} {x : ValueNode} {m m' : Machine} {k : WorldState} {r : Result Value Halt} → Computes x m r m' → Evaluates is_logged x m k r m' k
 computed_evaluates h = record { operands = h.operands; calls = h.calls; simulates = λ tables functions. change_simulates (h.changes tables functions) }
 
-pub evaluated : {is_logged : Type 0} {x : ValueNode} {m m' : Machine} {k k' : WorldState} (r : Result Value Halt) → m'.operands ≡ record m.operands { values = drop (popped x) m.operands.values } → m'.calls ≡ m.calls → ((tables : Tables) (functions : Functions) → Simulates is_logged m.runtime k m'.runtime k' r (value_of (tables_in m.runtime.names tables) functions x m.operands.values)) → Evaluates is_logged x m k r m' k'
+pub evaluated : {is_logged : Type 0} {x : ValueNode} {m m' : Machine} {k k' : WorldState} (r : Result Value Halt) → m'.operands ≡ record m.operands { values = drop (popped x) m.operands.values } → m'.runtime.frames.callers ≡ m.runtime.frames.callers → ((tables : Tables) (functions : Functions) → Simulates is_logged m.runtime k m'.runtime k' r (value_of (tables_in m.runtime.names tables) functions x m.operands.values)) → Evaluates is_logged x m k r m' k'
 evaluated (Ok v) o c h = record { operands = o; calls = c; simulates = h }
 evaluated (Err e) o c h = record { operands = tt; calls = tt; simulates = h }
 
 pub value_ended : {is_logged : Type 0} {x : ValueNode} {m m' : Machine} {k k' : WorldState} (e : Halt) → ((tables : Tables) (functions : Functions) → Simulates is_logged m.runtime k m'.runtime k' (Err e) (value_of (tables_in m.runtime.names tables) functions x m.operands.values)) → Evaluates is_logged x m k (Err e) m' k'
 value_ended e h = record { operands = tt; calls = tt; simulates = h }
+
+-- what gives some value, or ends, leaves the callers
+pub given_callers : {run : Run Value} {old new : Runtime} (r : Result (Unit {0}) Halt) → Gives run old r new → new.frames.callers ≡ old.frames.callers
+given_callers (Ok u) g = g.gives.1.callers
+given_callers (Err h) g = g.gives.callers

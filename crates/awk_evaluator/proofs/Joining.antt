@@ -42,7 +42,7 @@ module _ {o : BinaryOperator} {b : Operand} where
   -- the topmost value and an operand
 
   pub operated_with_operand : {m m1 m3 : Machine} {o2 : OperandsView} {x y : Value} {r : Result Value Halt} → ReadsOperand b m (Ok y) m1 → x ≡ first m1.operands.values → o2 ≡ record m1.operands { values = drop 1 m1.operands.values }
-      → m3.operands ≡ o2 → m3.calls ≡ m1.calls → Changes (lift (operated o x y)) m1.runtime m3.runtime r → Computes (v.OperateWith o b) m r m3
+      → m3.operands ≡ o2 → m3.runtime.frames.callers ≡ m1.runtime.frames.callers → Changes (lift (operated o x y)) m1.runtime m3.runtime r → Computes (v.OperateWith o b) m r m3
   operated_with_operand {m = m} {m1 = m1} {m3 = m3} {x = x} {y = y} {r = r} u top popped operands3 calls3 joined = computed r
       (operands3 ∙ popped ∙ ap (λ (s : OperandsView). record s { values = drop 1 s.values }) u.operands)
       (calls3 ∙ u.calls)
@@ -56,7 +56,7 @@ module _ {o : BinaryOperator} {b : Operand} where
 
   module _ {a : Operand} where
     pub operated_on_operands : {m m1 m2 m3 : Machine} {x y : Value} {r : Result Value Halt} → ReadsOperand a m (Ok x) m1 → ReadsOperand b m1 (Ok y) m2
-        → m3.operands ≡ m2.operands → m3.calls ≡ m2.calls → Changes (lift (operated o x y)) m2.runtime m3.runtime r → Computes (v.OperateOn o a b) m r m3
+        → m3.operands ≡ m2.operands → m3.runtime.frames.callers ≡ m2.runtime.frames.callers → Changes (lift (operated o x y)) m2.runtime m3.runtime r → Computes (v.OperateOn o a b) m r m3
     operated_on_operands {m = m} {m1 = m1} {m2 = m2} {r = r} left right operands3 calls3 joined = computed r
         (operands3 ∙ right.operands ∙ left.operands)
         (calls3 ∙ right.calls ∙ left.calls)
@@ -75,7 +75,7 @@ operand_found {r = r} u = computed r u.operands u.calls (λ tables functions. u.
 -- whether an operand has a match
 
 module _ (a : Operand) (ere : ℕ) {m m1 : Machine} where
-  pub operand_matched : {m2 : Machine} {x : Value} {r : Result Value Halt} → ReadsOperand a m (Ok x) m1 → m2.operands ≡ m1.operands → m2.calls ≡ m1.calls → Changes (lift (applied Matches x (value.Text (ere_at m1.runtime.names ere)))) m1.runtime m2.runtime r → Computes (v.Matches a ere) m r m2
+  pub operand_matched : {m2 : Machine} {x : Value} {r : Result Value Halt} → ReadsOperand a m (Ok x) m1 → m2.operands ≡ m1.operands → m2.runtime.frames.callers ≡ m1.runtime.frames.callers → Changes (lift (applied Matches x (value.Text (ere_at m1.runtime.names ere)))) m1.runtime m2.runtime r → Computes (v.Matches a ere) m r m2
   operand_matched {m2 = m2} {x = x} {r = r} u operands calls matched = computed r (operands ∙ u.operands) (calls ∙ u.calls)
       (λ tables functions. then_changes _ u.changes (subst (λ (n : Naming). Changes (lift (applied Matches x (value.Text (ere_at n ere)))) m1.runtime m2.runtime r) u.changes.names matched))
 
@@ -87,14 +87,14 @@ record_is : (s : State) → read_field (pos 0) s ≡ record_text s
 unfolding read_field record_text
 record_is s = refl
 
-pub record_matched : (ere : ℕ) {m m' : Machine} (r : Result Value Halt) → m'.operands ≡ m.operands → m'.calls ≡ m.calls → Changes (record_tested (ere_at m.runtime.names ere)) m.runtime m'.runtime r → Computes (v.Matches (operand.Field 0) ere) m r m'
+pub record_matched : (ere : ℕ) {m m' : Machine} (r : Result Value Halt) → m'.operands ≡ m.operands → m'.runtime.frames.callers ≡ m.runtime.frames.callers → Changes (record_tested (ere_at m.runtime.names ere)) m.runtime m'.runtime r → Computes (v.Matches (operand.Field 0) ere) m r m'
 record_matched ere {m = m} r operands calls tested = computed r operands calls
     (λ tables functions. same_changes _ _ (λ s holds. first_same (read_field (pos 0)) record_text (λ x. lift (applied Matches x (value.Text (ere_at m.runtime.names ere)))) s (record_is s)) tested)
 
 -- an operand that is assigned to a variable
 
 module _ (x : Variable) (o : AssignmentOperator) (a : Operand) {m m1 : Machine} where
-  pub assigned_read : {m2 : Machine} {w : Value} {r : Result Value Halt} → ReadsOperand a m (Ok w) m1 → m2.operands ≡ m1.operands → m2.calls ≡ m1.calls
+  pub assigned_read : {m2 : Machine} {w : Value} {r : Result Value Halt} → ReadsOperand a m (Ok w) m1 → m2.operands ≡ m1.operands → m2.runtime.frames.callers ≡ m1.runtime.frames.callers
       → Changes (assign_variable m1.runtime.names.scalars o x w) m1.runtime m2.runtime r → Runs (operand_value m.runtime.names.scalars a >>= λ u. assign_variable m.runtime.names.scalars o x u) m r m2
   assigned_read {m2 = m2} {w = w} {r = r} read operands calls assigned = record {
     operands = operands ∙ read.operands;
@@ -103,7 +103,7 @@ module _ (x : Variable) (o : AssignmentOperator) (a : Operand) {m m1 : Machine} 
   }
 
   -- where it isn't read again
-  pub given_read : {m2 : Machine} {w : Value} (r : Result (Unit {0}) Halt) → ReadsOperand a m (Ok w) m1 → m2.operands ≡ m1.operands → m2.calls ≡ m1.calls
+  pub given_read : {m2 : Machine} {w : Value} (r : Result (Unit {0}) Halt) → ReadsOperand a m (Ok w) m1 → m2.operands ≡ m1.operands → m2.runtime.frames.callers ≡ m1.runtime.frames.callers
       → Gives (assign_variable m1.runtime.names.scalars o x w) m1.runtime r m2.runtime → Done (λ q. AssignsOperand o x a m q m2) r
   given_read (Ok u) read operands calls g = record { done = (g.gives.0, assigned_read read operands calls g.gives.1) }
   given_read (Err h) read operands calls g = record { done = assigned_read read operands calls g.gives }
@@ -139,7 +139,7 @@ each_appended : (x : Variable) (ws : List Value) {m m' : Runtime} → (a : Appen
 each_appended x ws {m = m} a = texts_appended x ws a.read (lift_changes (Ok (value.Text (concat (map str_of ws)))) m refl) a.appends
 
 pub each_done : (x : Variable) (count : ℕ) {ws : List Value} {m m' : Machine} → ws ≡ taken count m.operands.values → AppendsText x (value.Text (concat (map str_of ws))) m.runtime m'.runtime
-    → m'.operands ≡ record m.operands { values = drop count m.operands.values } → m'.calls ≡ m.calls → Done (λ r. Appends x count m r m') (Ok tt)
+    → m'.operands ≡ record m.operands { values = drop count m.operands.values } → m'.runtime.frames.callers ≡ m.runtime.frames.callers → Done (λ r. Appends x count m r m') (Ok tt)
 each_done x count {ws = ws} {m = m} {m' = m'} is a operands calls = record {
   done = (
     a.after,

@@ -74,7 +74,7 @@ module _ {run : Run Value} (f : Naming → Value → Run Value) {m m1 : Machine}
   pub leaves_then : {w : Value} {m' : Machine} (r : Result Value Halt) → Leaves run m (Ok w) m1 → Leaves (f m1.runtime.names w) m1 r m' → Leaves (run >>= f m.runtime.names) m r m'
   leaves_then {w = w} {m' = m'} r q u = by r u.operands u.calls (then_changes _ q.changes (subst (λ (names : Naming). Changes (f names w) m1.runtime m'.runtime r) q.changes.names u.changes))
     where
-      by : (x : Result Value Halt) → OnOk x (m'.operands ≡ m1.operands) → OnOk x (m'.calls ≡ m1.calls) → Changes (run >>= f m.runtime.names) m.runtime m'.runtime x → Leaves (run >>= f m.runtime.names) m x m'
+      by : (x : Result Value Halt) → OnOk x (m'.operands ≡ m1.operands) → OnOk x (m'.runtime.frames.callers ≡ m1.runtime.frames.callers) → Changes (run >>= f m.runtime.names) m.runtime m'.runtime x → Leaves (run >>= f m.runtime.names) m x m'
       by (Ok y) o k changes = record { operands = o ∙ q.operands; calls = k ∙ q.calls; changes = changes }
       by (Err e) o k changes = record { operands = tt; calls = tt; changes = changes }
 
@@ -90,7 +90,7 @@ pub halted_leaves : {run : Run Value} {m m1 : Machine} {h : Halt} → Leaves run
 halted_leaves q = record { operands = tt; calls = tt; changes = q.changes }
 
 -- what leaves nothing where it came to a value
-pub changed_leaves : {run : Run Value} {m m' : Machine} (r : Result Value Halt) → Changes run m.runtime m'.runtime r → m'.operands ≡ m.operands → m'.calls ≡ m.calls → Leaves run m r m'
+pub changed_leaves : {run : Run Value} {m m' : Machine} (r : Result Value Halt) → Changes run m.runtime m'.runtime r → m'.operands ≡ m.operands → m'.runtime.frames.callers ≡ m.runtime.frames.callers → Leaves run m r m'
 changed_leaves (Ok w) changes operands calls = record { operands = operands; calls = calls; changes = changes }
 changed_leaves (Err e) changes operands calls = record { operands = tt; calls = tt; changes = changes }
 
@@ -120,7 +120,7 @@ module _ (list : List Operand) {m m1 : Machine} where
     pub texts_unjoined : {h : Halt} → Changes (lift (Ok (value.Text (concat (map str_of vs))))) m1.runtime m1.runtime (Err h) → ReadsJoined list m (Err h) m1
     texts_unjoined h = record { operands = tt; calls = tt; changes = joined_by _ h }
 
-    pub texts_joined : {b : Value} {m' : Machine} → Changes (lift (Ok (value.Text (concat (map str_of vs))))) m1.runtime m1.runtime (Ok b) → m'.operands ≡ record m1.operands { values = drop (length list) m1.operands.values } → m'.calls ≡ m1.calls → m'.runtime ≡ m1.runtime → ReadsJoined list m (Ok b) m'
+    pub texts_joined : {b : Value} {m' : Machine} → Changes (lift (Ok (value.Text (concat (map str_of vs))))) m1.runtime m1.runtime (Ok b) → m'.operands ≡ record m1.operands { values = drop (length list) m1.operands.values } → m'.runtime.frames.callers ≡ m1.runtime.frames.callers → m'.runtime ≡ m1.runtime → ReadsJoined list m (Ok b) m'
     texts_joined {b = b} {m' = m'} h dropped calls runtime =
         let cut : OperandsView → OperandsView = λ o. record o { values = drop (length list) o.values } in
         let all : List Value → OperandsView = λ l. record m.operands { values = l } in
@@ -139,7 +139,7 @@ module _ {m : Machine} {k : Key} {w : Value} (at : IsKeyAtHand k w m) where
   pub contains_puts_at : {a : Array} {found : Bool} {m' : Machine} → Changes (contains_at a (str_of w)) m.runtime m.runtime (Ok found) → Pushed (truth_value found) m m' → Puts (v.Contains a (Some k)) m m'
   contains_puts_at {found = found} h p = pushed_puts refl (λ tables functions. then_changes _ at.changes (made_of truth_value found h)) p
 
-  pub raised_puts_at : {o : IncrementOperator} {a : Array} {z : ℤ} {m' : Machine} (between : OperandsView) → between ≡ record m.operands { values = value.Nothing ∷ m.operands.values } → Changes (post_increment_at m.runtime.names.scalars o (place.Element a) w) m.runtime m'.runtime (Ok (value.Number z)) → m'.operands ≡ record between { values = value.Number z ∷ drop 1 between.values } → m'.calls ≡ m.calls → Puts (v.PostIncrementAt o (target.Element a k)) m m'
+  pub raised_puts_at : {o : IncrementOperator} {a : Array} {z : ℤ} {m' : Machine} (between : OperandsView) → between ≡ record m.operands { values = value.Nothing ∷ m.operands.values } → Changes (post_increment_at m.runtime.names.scalars o (place.Element a) w) m.runtime m'.runtime (Ok (value.Number z)) → m'.operands ≡ record between { values = value.Number z ∷ drop 1 between.values } → m'.runtime.frames.callers ≡ m.runtime.frames.callers → Puts (v.PostIncrementAt o (target.Element a k)) m m'
   raised_puts_at {z = z} between pushed h replaced calls = record {
     value = value.Number z;
     operands = replaced ∙ ap (λ (s : OperandsView). record s { values = value.Number z ∷ drop 1 s.values }) pushed;
@@ -147,7 +147,7 @@ module _ {m : Machine} {k : Key} {w : Value} (at : IsKeyAtHand k w m) where
     changes = λ tables functions. then_changes _ at.changes h;
   }
 
-  pub raised_at : (o : IncrementOperator) (a : Array) {x : Value} {m' : Machine} → Changes (post_increment_at m.runtime.names.scalars o (place.Element a) w) m.runtime m'.runtime (Ok x) → m'.operands ≡ m.operands → m'.calls ≡ m.calls → Done (λ r. Raises o (target.Element a k) m r m') (Ok tt)
+  pub raised_at : (o : IncrementOperator) (a : Array) {x : Value} {m' : Machine} → Changes (post_increment_at m.runtime.names.scalars o (place.Element a) w) m.runtime m'.runtime (Ok x) → m'.operands ≡ m.operands → m'.runtime.frames.callers ≡ m.runtime.frames.callers → Done (λ r. Raises o (target.Element a k) m r m') (Ok tt)
   raised_at o a {x = x} h operands calls = record { done = (x, record { operands = operands; calls = calls; changes = then_changes _ at.changes h }) }
 
 -- the number of an element that is raised at a key that is at hand
@@ -186,7 +186,7 @@ module _ (o : AssignmentOperator) (array : Array) (key : Value) (a : Operand) {m
 
 -- the number of an element at a key that was read
 module _ (o : IncrementOperator) (array : Array) (k : Key) {m m1 : Machine} where
-  pub key_raised : {w : Value} {m' : Machine} (r : Result Value Halt) → ReadsKey k m (Ok w) m1 → Changes (post_increment_at m1.runtime.names.scalars o (place.Element array) w) m1.runtime m'.runtime r → m'.operands ≡ m1.operands → m'.calls ≡ m1.calls → Raises o (target.Element array k) m r m'
+  pub key_raised : {w : Value} {m' : Machine} (r : Result Value Halt) → ReadsKey k m (Ok w) m1 → Changes (post_increment_at m1.runtime.names.scalars o (place.Element array) w) m1.runtime m'.runtime r → m'.operands ≡ m1.operands → m'.runtime.frames.callers ≡ m1.runtime.frames.callers → Raises o (target.Element array k) m r m'
   key_raised r q h operands calls = leaves_then (λ names x. post_increment_at names.scalars o (place.Element array) x) r q (changed_leaves r h operands calls)
 
   pub key_not_raised : {h : Halt} → ReadsKey k m (Err h) m1 → Raises o (target.Element array k) m (Err h) m1
@@ -194,7 +194,7 @@ module _ (o : IncrementOperator) (array : Array) (k : Key) {m m1 : Machine} wher
 
 -- elements that are assigned
 
-pub good_assigned : (o : AssignmentOperator) (array : Array) (key : Value) {a : Operand} {n : ℤ} {m m' : Machine} → IsAsGood o a n m → Gives (assign_by_at m.runtime.names.scalars (operator_of o) (place.Element array) key (value.Number n)) m.runtime (Ok tt) m'.runtime → m'.operands ≡ m.operands → m'.calls ≡ m.calls → Done (λ r. AssignsElement o array key a m r m') (Ok tt)
+pub good_assigned : (o : AssignmentOperator) (array : Array) (key : Value) {a : Operand} {n : ℤ} {m m' : Machine} → IsAsGood o a n m → Gives (assign_by_at m.runtime.names.scalars (operator_of o) (place.Element array) key (value.Number n)) m.runtime (Ok tt) m'.runtime → m'.operands ≡ m.operands → m'.runtime.frames.callers ≡ m.runtime.frames.callers → Done (λ r. AssignsElement o array key a m r m') (Ok tt)
 good_assigned o array key {m = m} {m' = m'} good g operands calls = record {
   done = (
     g.gives.0,
@@ -211,11 +211,11 @@ pub value_assigned : (array : Array) (key : Value) {a : Operand} {w : Value} {m 
 value_assigned array key at g = record { done = (g.gives.gives.0, record { operands = g.operands; calls = g.calls; changes = then_changes _ at.changes g.gives.gives.1 }) }
 
 -- by a value, which isn't read again
-given_by : (o : AssignmentOperator) (array : Array) (key w : Value) {m mid m' : Machine} (r : Result (Unit {0}) Halt) → Keeps mid m' → Gives (assign_by_at m.runtime.names.scalars (operator_of o) (place.Element array) key w) m.runtime r mid.runtime → mid.operands ≡ m.operands → mid.calls ≡ m.calls → Done (λ q. PutsAt o array key w m q m') (without_value r)
+given_by : (o : AssignmentOperator) (array : Array) (key w : Value) {m mid m' : Machine} (r : Result (Unit {0}) Halt) → Keeps mid m' → Gives (assign_by_at m.runtime.names.scalars (operator_of o) (place.Element array) key w) m.runtime r mid.runtime → mid.operands ≡ m.operands → mid.runtime.frames.callers ≡ m.runtime.frames.callers → Done (λ q. PutsAt o array key w m q m') (without_value r)
 given_by o array key w (Ok u) kept g operands calls = record { done = (g.gives.0, leaves_kept kept (Ok g.gives.0) (record { operands = operands; calls = calls; changes = g.gives.1 })) }
 given_by o array key w (Err h) kept g operands calls = record { done = leaves_kept kept (Err h) (record { operands = tt; calls = tt; changes = g.gives }) }
 
-pub value_given : (o : AssignmentOperator) (array : Array) (key w : Value) {m mid m' : Machine} (r : Result (Unit {0}) Halt) {s : Result (Unit {0}) Halt} → s ≡ without_value r → Keeps mid m' → Gives (assign_by_at m.runtime.names.scalars (operator_of o) (place.Element array) key w) m.runtime r mid.runtime → mid.operands ≡ m.operands → mid.calls ≡ m.calls → Done (λ q. PutsAt o array key w m q m') s
+pub value_given : (o : AssignmentOperator) (array : Array) (key w : Value) {m mid m' : Machine} (r : Result (Unit {0}) Halt) {s : Result (Unit {0}) Halt} → s ≡ without_value r → Keeps mid m' → Gives (assign_by_at m.runtime.names.scalars (operator_of o) (place.Element array) key w) m.runtime r mid.runtime → mid.operands ≡ m.operands → mid.runtime.frames.callers ≡ m.runtime.frames.callers → Done (λ q. PutsAt o array key w m q m') s
 value_given o array key w {m = m} {m' = m'} r is kept g operands calls = subst (λ (s : Result (Unit {0}) Halt). Done (λ q. PutsAt o array key w m q m') s) (sym is) (given_by o array key w r kept g operands calls)
 
 -- elements at a key that was read
@@ -228,11 +228,11 @@ module _ (a : Array) (k : Key) {m m1 : Machine} where
   not_contained q = record { operands = tt; calls = tt; changes = λ tables functions. ends_changes _ q.changes }
 
   module _ {w : Value} (q : ReadsKey k m (Ok w) m1) {m' : Machine} where
-    pub element_read : (r : Result Value Halt) → Changes (read_element_of a (str_of w)) m1.runtime m'.runtime r → m'.operands ≡ m1.operands → m'.calls ≡ m1.calls → Computes (v.ReadElement a (Some k)) m r m'
+    pub element_read : (r : Result Value Halt) → Changes (read_element_of a (str_of w)) m1.runtime m'.runtime r → m'.operands ≡ m1.operands → m'.runtime.frames.callers ≡ m1.runtime.frames.callers → Computes (v.ReadElement a (Some k)) m r m'
     element_read (Ok u) h operands calls = record { operands = operands ∙ q.operands; calls = calls ∙ q.calls; changes = λ tables functions. then_changes _ q.changes h }
     element_read (Err e) h operands calls = record { operands = tt; calls = tt; changes = λ tables functions. then_changes _ q.changes h }
 
-    pub contained : {found : Bool} → Changes (contains_at a (str_of w)) m1.runtime m'.runtime (Ok found) → m'.operands ≡ m1.operands → m'.calls ≡ m1.calls → Computes (v.Contains a (Some k)) m (Ok (truth_value found)) m'
+    pub contained : {found : Bool} → Changes (contains_at a (str_of w)) m1.runtime m'.runtime (Ok found) → m'.operands ≡ m1.operands → m'.runtime.frames.callers ≡ m1.runtime.frames.callers → Computes (v.Contains a (Some k)) m (Ok (truth_value found)) m'
     contained h operands calls = record { operands = operands ∙ q.operands; calls = calls ∙ q.calls; changes = λ tables functions. then_changes _ q.changes (made_of truth_value _ h) }
 
     pub not_found : {h : Halt} → Changes (contains_at a (str_of w)) m1.runtime m'.runtime (Err h) → Computes (v.Contains a (Some k)) m (Err h) m'

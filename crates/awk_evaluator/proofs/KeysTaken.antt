@@ -40,7 +40,7 @@ pub key_stuck : {x : Variable} {m m' : Machine} {o : OperandsView} {key : Value}
 key_stuck {x = x} {m = m} {m' = m'} rest top c = record { changes = memory_behind_changes (changed_by x m m' (key_is m rest top) c); operands = tt; calls = tt }
 
 pub next_key : {x : Variable} {m m' : Machine} {o o' : OperandsView} {count key : Value} {left : ℕ} → count ≡ first m.operands.values → o ≡ record m.operands { values = drop 1 m.operands.values } → key ≡ first o.values → o' ≡ record o { values = drop 1 o.values }
-    → Changes (put_variable m.runtime.names.scalars x key) m.runtime m'.runtime (Ok tt) → left ≡ keys_left count - 1 → m'.operands ≡ record o' { values = value.Number (pos left) ∷ o'.values } → m'.calls ≡ m.calls → TakesKey x m (Ok tt) m'
+    → Changes (put_variable m.runtime.names.scalars x key) m.runtime m'.runtime (Ok tt) → left ≡ keys_left count - 1 → m'.operands ≡ record o' { values = value.Number (pos left) ∷ o'.values } → m'.runtime.frames.callers ≡ m.runtime.frames.callers → TakesKey x m (Ok tt) m'
 next_key {x = x} {m = m} {m' = m'} {o = o} {o' = o'} {left = left} is rest top rest' c less operands calls =
     let below : OperandsView → OperandsView = λ x. record { values = value.Number (pos left) ∷ x.values; below = x.below } in
     let next : OperandsView → OperandsView = λ x. record { values = value.Number (pos left) ∷ drop 1 x.values; below = x.below } in

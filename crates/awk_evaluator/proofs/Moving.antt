@@ -29,8 +29,8 @@ use Rattle.awk_resolve.specs.declared.plan.Plan.{Plan}
 use Rattle.awk_resolve.specs.Nodes.{Tables, Cont, first, second, value_of, popped, effect_of, dropped, walk_values, keys_left, next_key_by, halt_by}
 use Rattle.awk_resolve.proofs.Listed.{node_at, no_node_at}
 use Rattle.awk_runtime.specs.declared.runtime.Runtime.{Runtime}
-use Rattle.awk_runtime.specs.Simulation.{IsReady, SimulatesLogged, Simulates, Changes, Spends}
-use Rattle.awk_runtime.proofs.Composition.{wanted_behind, ready_same, ends_simulates, change_simulates, lift_simulates}
+use Rattle.awk_runtime.specs.Simulation.{IsReady, SimulatesLogged, Simulates, Changes, Spends, ChangesCalls}
+use Rattle.awk_runtime.proofs.Composition.{wanted_behind, ready_same, ends_simulates, change_simulates, lift_simulates, calls_simulate}
 use Rattle.awk_evaluator.specs.declared.machine.Machine.{Machine}
 use Rattle.awk_evaluator.specs.declared.machine.Move.{Move}
 use Rattle.awk_evaluator.specs.declared.machine.Move.TheVariants as move
@@ -54,7 +54,7 @@ pub memory_behind : {A : Type 0} {is_logged : Type 0} {old new : Runtime} {befor
 memory_behind x = record { steps = x.steps; names = x.names; told = λ t. memory_logged (x.told t) }
 
 pub memory_behind_changes : {A : Type 0} {old new : Runtime} {a : A} {run : Run A} → Changes run old new (Ok a) → Changes run old new (Err (halt.Fault OutOfMemory))
-memory_behind_changes x = record { steps = x.steps; names = x.names; streams = x.streams; means = λ k. memory_logged (x.means k) }
+memory_behind_changes x = record { steps = x.steps; names = x.names; streams = x.streams; callers = x.callers; means = λ k. memory_logged (x.means k) }
 
 pub no_tables : Tables
 no_tables = record { names = []; eres = []; arrays = []; functions = [] }
@@ -136,7 +136,7 @@ module _ {is_logged : Type 0} {plan : Plan} {from : Start} where
 
   -- a turn of a loop
   module _ {m m' : Machine} {k : WorldState} (i : ℕ) (is : (tables : Tables) (ds : List Definition) (b : Bound) → begun tables ds plan from b m.operands.values ≡ turn tables ds plan b i m.operands.values) where
-    pub turns_on : {j : ℕ} → j ≡ get_or plan.heads.items i 0 → m'.operands ≡ m.operands → m'.calls ≡ m.calls → Spends m.runtime m'.runtime (Ok tt) → Moves is_logged plan from m k (move.Up j) m' k
+    pub turns_on : {j : ℕ} → j ≡ get_or plan.heads.items i 0 → m'.operands ≡ m.operands → m'.runtime.frames.callers ≡ m.runtime.frames.callers → Spends m.runtime m'.runtime (Ok tt) → Moves is_logged plan from m k (move.Up j) m' k
     turns_on {j = j} at operands calls s = record {
       moves = record {
         less = s.falls;
@@ -148,7 +148,7 @@ module _ {is_logged : Type 0} {plan : Plan} {from : Start} where
               turn_rest t ds plan is_logged i (λ b. is t ds b) (change_simulates s.changes) s.falls
               (subst (λ (x : ℕ). Rest t ds plan is_logged (AtPlace x) m.operands.values (stack_of m) m'.runtime k new after r) at
               (subst (λ (es : List _). Rest t ds plan is_logged (AtPlace j) m.operands.values (seen_of m.operands es) m'.runtime k new after r) calls
-              (subst (λ (o : OperandsView). Rest t ds plan is_logged (AtPlace j) o.values (seen_of o m'.calls) m'.runtime k new after r) operands d)));
+              (subst (λ (o : OperandsView). Rest t ds plan is_logged (AtPlace j) o.values (seen_of o m'.runtime.frames.callers) m'.runtime k new after r) operands d)));
         };
       };
     }
@@ -160,13 +160,13 @@ module _ {is_logged : Type 0} {plan : Plan} {from : Start} where
     }
 
   -- a value is returned
-  module _ {m m1 : Machine} {k : WorldState} {w : Value} (stack : stack_of m1 ≡ stack_of m) (calls : m1.calls ≡ m.calls) (same : m1.runtime ≡ m.runtime)
+  module _ {m m1 : Machine} {k : WorldState} {w : Value} (stack : stack_of m1 ≡ stack_of m) (calls : m1.runtime.frames.callers ≡ m.runtime.frames.callers) (same : m1.runtime ≡ m.runtime)
       (is : (tables : Tables) (ds : List Definition) (b : Bound) → begun tables ds plan from b m.operands.values ≡ ret w) where
     pub gives_back : {m' : Machine} {to : Move} → GivesBack w m1 to m' → Moves is_logged plan from m k to m' k
     gives_back {m' = m'} {to = to} g = record { moves = by to g.gives }
       where
-        to_left : Changes leave m1.runtime m'.runtime (Ok tt) → Changes leave m.runtime m'.runtime (Ok tt)
-        to_left x = subst (λ (y : Runtime). Changes leave y m'.runtime (Ok tt)) same x
+        to_left : ChangesCalls leave m1.runtime m'.runtime (Ok tt) → ChangesCalls leave m.runtime m'.runtime (Ok tt)
+        to_left x = subst (λ (y : Runtime). ChangesCalls leave y m'.runtime (Ok tt)) same x
 
         by : (q : Move) → GivesBackBy w m1 q m' → MovesBy is_logged plan from m k q m' k
         by (move.On i) g = absurd g
@@ -180,7 +180,7 @@ module _ {is_logged : Type 0} {plan : Plan} {from : Start} where
                 let t = tables_in m.runtime.names tables in
                 let e : Entry = record { next = i; values = g.0 } in
                 subst (λ (es : List Entry). Rest t ds plan is_logged from m.operands.values es m.runtime k new after r) (sym g.1 ∙ stack)
-                (return_rest t ds plan is_logged {e = e} w (λ b. is t ds b) (change_simulates (to_left g.3)) (to_left g.3).steps
+                (return_rest t ds plan is_logged {e = e} w (λ b. is t ds b) (calls_simulate (to_left g.3)) (to_left g.3).steps
                 (subst (λ (vs : List Value). Rest t ds plan is_logged (AtPlace i) vs (stack_of m') m'.runtime k new after r) g.2 d));
           };
         }
@@ -200,7 +200,7 @@ module _ {is_logged : Type 0} {plan : Plan} {from : Start} where
               let t = tables_in m.runtime.names tables in
               subst (λ (x : Halt). Rest t ds plan is_logged from m.operands.values (stack_of m) m.runtime k m'.runtime k (Err x)) (sym g.4)
               (subst (λ (es : List Entry). Rest t ds plan is_logged from m.operands.values es m.runtime k m'.runtime k (Err (halt.Fault OutOfMemory))) (sym g.2 ∙ stack)
-              (return_stuck t ds plan is_logged {e = g.0} w (λ b. is t ds b) (memory_behind (change_simulates (to_left g.3)))));
+              (return_stuck t ds plan is_logged {e = g.0} w (λ b. is t ds b) (memory_behind (calls_simulate (to_left g.3)))));
         }
 
 -- a part that ended halts the machine, which keeps why
@@ -242,7 +242,7 @@ module _ {is_logged : Type 0} {plan : Plan} where
   -- a node that gives a value
 
   module _ {x : ValueNode} {i : ℕ} where
-    pub value_on : {m m1 m2 : Machine} {k k' : WorldState} {w : Value} → Evaluates is_logged x m k (Ok w) m1 k' → m2.operands ≡ record m1.operands { values = w ∷ m1.operands.values } → m2.calls ≡ m1.calls → m2.runtime ≡ m1.runtime → Moves is_logged plan (AtNode (n.Value x i)) m k (move.On i) m2 k'
+    pub value_on : {m m1 m2 : Machine} {k k' : WorldState} {w : Value} → Evaluates is_logged x m k (Ok w) m1 k' → m2.operands ≡ record m1.operands { values = w ∷ m1.operands.values } → m2.runtime.frames.callers ≡ m1.runtime.frames.callers → m2.runtime ≡ m1.runtime → Moves is_logged plan (AtNode (n.Value x i)) m k (move.On i) m2 k'
     value_on {m = m} {m1 = m1} {m2 = m2} {k = k} {k' = k'} {w = w} e operands calls same = record {
       moves = record {
         less = λ at low. low;
@@ -250,7 +250,7 @@ module _ {is_logged : Type 0} {plan : Plan} where
         leads = leads_on (λ tables functions. value_of tables functions x m.operands.values) (λ tables ds b u. cont tables ds plan b i (u ∷ drop (popped x) m.operands.values)) (λ tables ds b. refl)
             (λ tables functions. subst (λ (y : Runtime). Simulates is_logged m.runtime k y k' (Ok w) (value_of (tables_in m.runtime.names tables) functions x m.operands.values)) (sym same) (e.simulates tables functions))
             (λ tables ds b. ap (λ vs. cont tables ds plan b i vs) (ap (λ (o : OperandsView). w ∷ o.values) (sym e.operands) ∙ ap (λ (o : OperandsView). o.values) (sym operands)))
-            (ap (λ es. seen_of m2.operands es) (calls ∙ e.calls) ∙ ap (λ (o : OperandsView). seen_of o m.calls) operands ∙ ap (λ (o : OperandsView). seen_of o m.calls) e.operands);
+            (ap (λ es. seen_of m2.operands es) (calls ∙ e.calls) ∙ ap (λ (o : OperandsView). seen_of o m.runtime.frames.callers) operands ∙ ap (λ (o : OperandsView). seen_of o m.runtime.frames.callers) e.operands);
       };
     }
 
@@ -272,7 +272,7 @@ module _ {is_logged : Type 0} {plan : Plan} where
         leads = leads_on (λ tables functions. effect_of functions x m.operands.values) (λ tables ds b u. cont tables ds plan b i (drop (dropped x) m.operands.values)) (λ tables ds b. refl)
             (λ tables functions. e.simulates functions)
             (λ tables ds b. ap (λ vs. cont tables ds plan b i vs) (ap (λ (o : OperandsView). o.values) (sym e.operands)))
-            (ap (λ es. seen_of m'.operands es) e.calls ∙ ap (λ (o : OperandsView). seen_of o m.calls) e.operands);
+            (ap (λ es. seen_of m'.operands es) e.calls ∙ ap (λ (o : OperandsView). seen_of o m.runtime.frames.callers) e.operands);
       };
     }
 
@@ -282,14 +282,14 @@ module _ {is_logged : Type 0} {plan : Plan} where
   -- tests
 
   module _ {here other : ℕ} where
-    tested : {m m' : Machine} {k : WorldState} {t : Bool} (i : ℕ) → truth_of (first m.operands.values) ≡ t → m'.operands ≡ record m.operands { values = drop 1 m.operands.values } → m'.calls ≡ m.calls → m'.runtime ≡ m.runtime
+    tested : {m m' : Machine} {k : WorldState} {t : Bool} (i : ℕ) → truth_of (first m.operands.values) ≡ t → m'.operands ≡ record m.operands { values = drop 1 m.operands.values } → m'.runtime.frames.callers ≡ m.runtime.frames.callers → m'.runtime ≡ m.runtime
         → ((tables : Tables) (ds : List Definition) (b : Bound) → choose t (cont tables ds plan b here (drop 1 m.operands.values)) (cont tables ds plan b other (drop 1 m.operands.values)) ≡ cont tables ds plan b i (drop 1 m.operands.values))
         → Leads is_logged plan (AtNode (n.Test here other)) m k i m' k
     tested {m = m} {m' = m'} i e operands calls same chosen = leads_at_once
         (λ tables ds b. ap (λ x. choose x (cont tables ds plan b here (drop 1 m.operands.values)) (cont tables ds plan b other (drop 1 m.operands.values))) e ∙ chosen tables ds b ∙ ap (λ (o : OperandsView). cont tables ds plan b i o.values) (sym operands))
-        same (ap (λ es. seen_of m'.operands es) calls ∙ ap (λ (o : OperandsView). seen_of o m.calls) operands)
+        same (ap (λ es. seen_of m'.operands es) calls ∙ ap (λ (o : OperandsView). seen_of o m.runtime.frames.callers) operands)
 
-    pub test_on : {m m' : Machine} {k : WorldState} {t : Bool} {i : ℕ} → i ≡ (if t then here else other) → truth_of (first m.operands.values) ≡ t → m'.operands ≡ record m.operands { values = drop 1 m.operands.values } → m'.calls ≡ m.calls → m'.runtime ≡ m.runtime → Moves is_logged plan (AtNode (n.Test here other)) m k (move.On i) m' k
+    pub test_on : {m m' : Machine} {k : WorldState} {t : Bool} {i : ℕ} → i ≡ (if t then here else other) → truth_of (first m.operands.values) ≡ t → m'.operands ≡ record m.operands { values = drop 1 m.operands.values } → m'.runtime.frames.callers ≡ m.runtime.frames.callers → m'.runtime ≡ m.runtime → Moves is_logged plan (AtNode (n.Test here other)) m k (move.On i) m' k
     test_on {m = m} {m' = m'} {k = k} {t = t} is e operands calls same = subst (λ (j : ℕ). Moves is_logged plan (AtNode (n.Test here other)) m k (move.On j) m' k) (sym is) (record {
       moves = record {
         less = λ at low. chosen_below t low;
@@ -300,7 +300,7 @@ module _ {is_logged : Type 0} {plan : Plan} where
 
   -- turns
 
-  pub again_on : {i j : ℕ} {m m' : Machine} {k : WorldState} → j ≡ get_or plan.heads.items i 0 → m'.operands ≡ m.operands → m'.calls ≡ m.calls → Spends m.runtime m'.runtime (Ok tt) → Moves is_logged plan (AtNode (n.Again i)) m k (move.Up j) m' k
+  pub again_on : {i j : ℕ} {m m' : Machine} {k : WorldState} → j ≡ get_or plan.heads.items i 0 → m'.operands ≡ m.operands → m'.runtime.frames.callers ≡ m.runtime.frames.callers → Spends m.runtime m'.runtime (Ok tt) → Moves is_logged plan (AtNode (n.Again i)) m k (move.Up j) m' k
   again_on {i = i} = turns_on i (λ tables ds b. refl)
 
   pub again_stuck : {i : ℕ} {m m' : Machine} {k : WorldState} {h : Halt} → Spends m.runtime m'.runtime (Err h) → Ends is_logged plan (AtNode (n.Again i)) m k (Err h) m' k
@@ -308,19 +308,19 @@ module _ {is_logged : Type 0} {plan : Plan} where
 
   -- walks
 
-  pub key_on : {i exit j : ℕ} {m m' : Machine} {k : WorldState} → keys_left (first m.operands.values) ≢ 0 → j ≡ get_or plan.heads.items i 0 → m'.operands ≡ m.operands → m'.calls ≡ m.calls → Spends m.runtime m'.runtime (Ok tt) → Moves is_logged plan (AtNode (n.NextKey i exit)) m k (move.Up j) m' k
+  pub key_on : {i exit j : ℕ} {m m' : Machine} {k : WorldState} → keys_left (first m.operands.values) ≢ 0 → j ≡ get_or plan.heads.items i 0 → m'.operands ≡ m.operands → m'.runtime.frames.callers ≡ m.runtime.frames.callers → Spends m.runtime m'.runtime (Ok tt) → Moves is_logged plan (AtNode (n.NextKey i exit)) m k (move.Up j) m' k
   key_on {i = i} {exit = exit} {m = m} h = turns_on i (λ tables ds b. next_turn (keys_left (first m.operands.values)) _ _ h)
 
   pub key_stuck : {i exit : ℕ} {m m' : Machine} {k : WorldState} {h : Halt} → keys_left (first m.operands.values) ≢ 0 → Spends m.runtime m'.runtime (Err h) → Ends is_logged plan (AtNode (n.NextKey i exit)) m k (Err h) m' k
   key_stuck {i = i} {exit = exit} {m = m} h = turns_stuck i (λ tables ds b. next_turn (keys_left (first m.operands.values)) _ _ h)
 
-  pub key_exit : {i exit : ℕ} {m m' : Machine} {k : WorldState} → keys_left (first m.operands.values) ≡ 0 → m'.operands ≡ record m.operands { values = drop 1 m.operands.values } → m'.calls ≡ m.calls → m'.runtime ≡ m.runtime → Moves is_logged plan (AtNode (n.NextKey i exit)) m k (move.On exit) m' k
+  pub key_exit : {i exit : ℕ} {m m' : Machine} {k : WorldState} → keys_left (first m.operands.values) ≡ 0 → m'.operands ≡ record m.operands { values = drop 1 m.operands.values } → m'.runtime.frames.callers ≡ m.runtime.frames.callers → m'.runtime ≡ m.runtime → Moves is_logged plan (AtNode (n.NextKey i exit)) m k (move.On exit) m' k
   key_exit {i = i} {exit = exit} {m = m} {m' = m'} e operands calls same = record {
     moves = record {
       less = λ at low. low;
       calls = calls;
       leads = leads_at_once (λ tables ds b. ap (λ c. next_key_by c (turn tables ds plan b i m.operands.values) (cont tables ds plan b exit (drop 1 m.operands.values))) e ∙ ap (λ (o : OperandsView). cont tables ds plan b exit o.values) (sym operands))
-          same (ap (λ es. seen_of m'.operands es) calls ∙ ap (λ (o : OperandsView). seen_of o m.calls) operands);
+          same (ap (λ es. seen_of m'.operands es) calls ∙ ap (λ (o : OperandsView). seen_of o m.runtime.frames.callers) operands);
     };
   }
 
@@ -328,11 +328,11 @@ module _ {is_logged : Type 0} {plan : Plan} where
   walk_on {a = a} {i = i} {m = m} {m' = m'} p = record {
     moves = record {
       less = λ at low. low;
-      calls = p.puts.3;
+      calls = p.puts.1.callers;
       leads = leads_on (λ tables functions. keys_of_array a) (λ tables ds b keys. cont tables ds plan b i (walk_values keys ++ m.operands.values)) (λ tables ds b. refl)
           (λ tables functions. change_simulates p.puts.1)
           (λ tables ds b. ap (λ (o : OperandsView). cont tables ds plan b i o.values) (sym p.puts.2))
-          (ap (λ es. seen_of m'.operands es) p.puts.3 ∙ ap (λ (o : OperandsView). seen_of o m.calls) p.puts.2);
+          (ap (λ es. seen_of m'.operands es) p.puts.1.callers ∙ ap (λ (o : OperandsView). seen_of o m.runtime.frames.callers) p.puts.2);
     };
   }
 
@@ -347,19 +347,19 @@ module _ {is_logged : Type 0} {plan : Plan} where
       leads = leads_on (λ tables functions. put_variable tables.names x (second m.operands.values)) (λ tables ds b u. cont tables ds plan b i (value.Number (pos (keys_left (first m.operands.values) - 1)) ∷ drop 2 m.operands.values)) (λ tables ds b. refl)
           (λ tables functions. change_simulates p.changes)
           (λ tables ds b. ap (λ (o : OperandsView). cont tables ds plan b i o.values) (sym p.operands))
-          (ap (λ es. seen_of m'.operands es) p.calls ∙ ap (λ (o : OperandsView). seen_of o m.calls) p.operands);
+          (ap (λ es. seen_of m'.operands es) p.calls ∙ ap (λ (o : OperandsView). seen_of o m.runtime.frames.callers) p.operands);
     };
   }
 
   pub key_ends : {x : Variable} {i : ℕ} {m m' : Machine} {k : WorldState} {h : Halt} → TakesKey x m (Err h) m' → Ends is_logged plan (AtNode (n.TakeKey x i)) m k (Err h) m' k
   key_ends {x = x} {i = i} {m = m} p = ends_on (λ tables functions. put_variable tables.names x (second m.operands.values)) (λ tables ds b u. cont tables ds plan b i (value.Number (pos (keys_left (first m.operands.values) - 1)) ∷ drop 2 m.operands.values)) (λ tables ds b. refl) (λ tables functions. change_simulates p.changes)
 
-  pub walk_left : {i : ℕ} {m m' : Machine} {k : WorldState} → m'.operands ≡ record m.operands { values = drop (suc (keys_left (first m.operands.values))) m.operands.values } → m'.calls ≡ m.calls → m'.runtime ≡ m.runtime → Moves is_logged plan (AtNode (n.LeaveWalk i)) m k (move.On i) m' k
+  pub walk_left : {i : ℕ} {m m' : Machine} {k : WorldState} → m'.operands ≡ record m.operands { values = drop (suc (keys_left (first m.operands.values))) m.operands.values } → m'.runtime.frames.callers ≡ m.runtime.frames.callers → m'.runtime ≡ m.runtime → Moves is_logged plan (AtNode (n.LeaveWalk i)) m k (move.On i) m' k
   walk_left {i = i} {m = m} {m' = m'} operands calls same = record {
     moves = record {
       less = λ at low. low;
       calls = calls;
-      leads = leads_at_once (λ tables ds b. ap (λ (o : OperandsView). cont tables ds plan b i o.values) (sym operands)) same (ap (λ es. seen_of m'.operands es) calls ∙ ap (λ (o : OperandsView). seen_of o m.calls) operands);
+      leads = leads_at_once (λ tables ds b. ap (λ (o : OperandsView). cont tables ds plan b i o.values) (sym operands)) same (ap (λ es. seen_of m'.operands es) calls ∙ ap (λ (o : OperandsView). seen_of o m.runtime.frames.callers) operands);
     };
   }
 
@@ -413,7 +413,7 @@ module _ {is_logged : Type 0} {plan : Plan} where
   }
 
   -- the last value is taken off
-  pub finished : {from : Start} {m m1 m' : Machine} {k k' : WorldState} {v : Value} → Finishes is_logged plan from m k m1 k' → v ≡ first m1.operands.values → m'.operands ≡ record { values = []; below = [] } → m'.calls ≡ m1.calls → m'.runtime ≡ m1.runtime
+  pub finished : {from : Start} {m m1 m' : Machine} {k k' : WorldState} {v : Value} → Finishes is_logged plan from m k m1 k' → v ≡ first m1.operands.values → m'.operands ≡ record { values = []; below = [] } → m'.runtime.frames.callers ≡ m1.runtime.frames.callers → m'.runtime ≡ m1.runtime
       → Ends is_logged plan from m k (Ok v) m' k'
   finished {from = from} {m = m} {m1 = m1} {k = k} {k' = k'} {v = v} f top operands calls same = record {
     idle = record { operands = operands; calls = calls ∙ f.calls };

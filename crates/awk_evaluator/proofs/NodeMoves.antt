@@ -91,11 +91,11 @@ module _ {is_logged : Type 0} {plan : Plan} {m m' : Machine} {k : WorldState} {i
 
   -- turns
 
-  pub again_moves : {j : ℕ} (spent : Bool) → i ≡ get_or plan.heads.items j 0 → m'.operands ≡ m.operands → m'.calls ≡ m.calls → Spends m.runtime m'.runtime (came spent m') → Moves is_logged plan (AtNode (n.Again j)) m k (upward spent i) m' k
+  pub again_moves : {j : ℕ} (spent : Bool) → i ≡ get_or plan.heads.items j 0 → m'.operands ≡ m.operands → m'.runtime.frames.callers ≡ m.runtime.frames.callers → Spends m.runtime m'.runtime (came spent m') → Moves is_logged plan (AtNode (n.Again j)) m k (upward spent i) m' k
   again_moves true at operands calls s = again_on at operands calls s
   again_moves false at operands calls s = record { moves = again_stuck s }
 
-  pub turn_moves : {j exit : ℕ} (spent : Bool) → keys_left (first m.operands.values) ≢ 0 → i ≡ get_or plan.heads.items j 0 → m'.operands ≡ m.operands → m'.calls ≡ m.calls → Spends m.runtime m'.runtime (came spent m') → Moves is_logged plan (AtNode (n.NextKey j exit)) m k (upward spent i) m' k
+  pub turn_moves : {j exit : ℕ} (spent : Bool) → keys_left (first m.operands.values) ≢ 0 → i ≡ get_or plan.heads.items j 0 → m'.operands ≡ m.operands → m'.runtime.frames.callers ≡ m.runtime.frames.callers → Spends m.runtime m'.runtime (came spent m') → Moves is_logged plan (AtNode (n.NextKey j exit)) m k (upward spent i) m' k
   turn_moves true h at operands calls s = key_on h at operands calls s
   turn_moves false h at operands calls s = record { moves = key_stuck h s }
 
@@ -140,9 +140,9 @@ module _ {is_logged : Type 0} {m m' : Machine} {k : WorldState} where
   pub ready_given : {w : Value} (to : Move) → GivesBack w m to m' → IsReady is_logged k m.runtime.streams → IsReady is_logged k m'.runtime.streams
   ready_given (move.On i) g ready = absurd g.gives
   ready_given (move.Up i) g ready = absurd g.gives
-  ready_given (move.Back i) g ready = ready_behind g.gives.3 ready
+  ready_given (move.Back i) g ready = ready_same g.gives.3.streams ready
   ready_given move.Over g ready = ready_same (ap (λ (x : Runtime). x.streams) g.gives.3) ready
-  ready_given move.Halted g ready = ready_behind g.gives.3 ready
+  ready_given move.Halted g ready = ready_same g.gives.3.streams ready
 
 -- a move that ends a row of moves
 
@@ -157,7 +157,7 @@ module _ {is_logged : Type 0} {plan : Plan} {from : Start} {at : ℕ} {m m1 m' :
         (subst (λ (names : Naming). PlanStands (tables_in names tables) ds plan → RestOf (tables_in names tables) ds plan is_logged (AtPlace at) m1 k1 m'.runtime k' (Ok (first m'.operands.values))) before.names (λ st. f.ends tables ds st) stands);
   }
 
-  pub turned : (to : Move) → ((i : ℕ) → to ≢ move.On i) → m1.calls ≡ m.calls → Moves is_logged plan (AtPlace at) m1 k1 to m' k' → Turns is_logged plan from m k to m' k'
+  pub turned : (to : Move) → ((i : ℕ) → to ≢ move.On i) → m1.runtime.frames.callers ≡ m.runtime.frames.callers → Moves is_logged plan (AtPlace at) m1 k1 to m' k' → Turns is_logged plan from m k to m' k'
   turned (move.On i) other calls x = absurd (other i refl)
   turned (move.Up i) other calls x = record { turns = on_up x.moves.less x.moves.leads }
   turned (move.Back i) other calls x = record { turns = record { leads = led_on before x.moves.leads; less = (let e = ap length calls in let f = x.moves.less in omega (arith, e, f)) } }
@@ -189,7 +189,7 @@ module _ {is_logged : Type 0} {plan : Plan} {from : Start} {at : ℕ} {m m1 : Ma
     placed : {to : Move} {m' : Machine} {k' : WorldState} → Moves is_logged plan (AtNode node) m1 k1 to m' k' → Moves is_logged plan (AtPlace at) m1 k1 to m' k'
     placed x = by_place sound (sym is) x
 
-    pub node_turned : {m' : Machine} {k' : WorldState} (to : Move) → ((i : ℕ) → to ≢ move.On i) → m1.calls ≡ m.calls → Moves is_logged plan (AtNode node) m1 k1 to m' k' → Turns is_logged plan from m k to m' k'
+    pub node_turned : {m' : Machine} {k' : WorldState} (to : Move) → ((i : ℕ) → to ≢ move.On i) → m1.runtime.frames.callers ≡ m.runtime.frames.callers → Moves is_logged plan (AtNode node) m1 k1 to m' k' → Turns is_logged plan from m k to m' k'
     node_turned to other calls x = turned before to other calls (placed x)
 
     pub node_led : {i : ℕ} {m' : Machine} {k' : WorldState} → Moves is_logged plan (AtNode node) m1 k1 (move.On i) m' k' → Leads is_logged plan from m k i m' k'
@@ -203,5 +203,5 @@ module _ {is_logged : Type 0} {plan : Plan} {from : Start} {at : ℕ} {m m1 : Ma
     node_below x = let less = node_before x in let low = slice_get_within plan.nodes.items at node (sym is) in omega (arith, less, low)
 
   -- where none is
-  pub end_turned : {m' : Machine} (to : Move) → m1.calls ≡ m.calls → None ≡ slice_get plan.nodes.items at → GivesBack value.Nothing m1 to m' → Turns is_logged plan from m k to m' k1
+  pub end_turned : {m' : Machine} (to : Move) → m1.runtime.frames.callers ≡ m.runtime.frames.callers → None ≡ slice_get plan.nodes.items at → GivesBack value.Nothing m1 to m' → Turns is_logged plan from m k to m' k1
   end_turned to calls none g = turned before to (no_move to g) calls (past_end none g)

@@ -15,7 +15,7 @@ use Rattle.awk_runtime.specs.Naming.{Naming}
 use Rattle.awk_runtime.specs.Simulation.{Changes, Simulates, SameState}
 use Rattle.awk_runtime.specs.Lines.{AppendsText}
 use Rattle.awk_runtime.specs.support.Printing.{PrintsTo}
-use Rattle.awk_runtime.proofs.Composition.{then_simulates, change_simulates, then_changes, lift_changes}
+use Rattle.awk_runtime.proofs.Composition.{then_simulates, change_simulates, then_changes, lift_changes, callers_stay}
 use Rattle.awk_runtime.proofs.Steps.{same_changes}
 use Rattle.awk_runtime.proofs.SameStates.{simulates_behind, simulates_before, both_same}
 use Rattle.awk_evaluator.specs.declared.machine.Machine.{Machine}
@@ -81,13 +81,13 @@ pub next_behind : {m : Runtime} {before start mid after : List ℕ} (operands : 
 next_behind operands i a below is between read rest = rw (drop-cons operands i a, ← is) (one_behind between read (rw add-one at rest))
 
 -- the line was held back
-pub line_held : {is_logged : Type 0} {xs : List Operand} {m m' : Machine} {k : WorldState} {line : List ℕ} → m'.operands ≡ m.operands → m'.calls ≡ m.calls → AppendsTexts xs m.runtime [] line
+pub line_held : {is_logged : Type 0} {xs : List Operand} {m m' : Machine} {k : WorldState} {line : List ℕ} → m'.operands ≡ m.operands → AppendsTexts xs m.runtime [] line
     → ((ws : List Value) → line ≡ join (separator m.runtime) (map str_of ws) → PrintsTo is_logged StandardOutput (λ n. print_line n ws) m.runtime k m'.runtime k (Ok tt)) → PrintsOperands is_logged xs m k (Ok tt) m' k
-line_held operands calls appended held =
+line_held operands appended held =
     let printed = held appended.values appended.text in
     record {
       operands = operands;
-      calls = calls;
+      calls = printed.callers;
       simulates = then_simulates (λ ws. print_line 0 ws) (change_simulates appended.changes) (record { steps = printed.steps; names = printed.names; told = λ t. printed.told t 0 refl });
     }
 
@@ -107,8 +107,8 @@ pub printed_before : {is_logged : Type 0} {xs : List Operand} {m mid m' : Machin
 printed_before p same = record { operands = same.operands ∙ p.operands; calls = same.calls ∙ p.calls; simulates = simulates_before p.simulates same.runtime }
 
 -- nothing but the room of a line
-pub room_changed : {m m' : Machine} → m'.operands ≡ m.operands → m'.calls ≡ m.calls → SameState m.runtime m'.runtime → SameMachine m m'
-room_changed operands calls same = record { operands = operands; calls = calls; runtime = same }
+pub room_changed : {m m' : Machine} → m'.operands ≡ m.operands → SameState m.runtime m'.runtime → SameMachine m m'
+room_changed operands same = record { operands = operands; calls = callers_stay same.beside.frames; runtime = same }
 
 pub same_twice : {m mid m' : Machine} → SameMachine m mid → SameMachine mid m' → SameMachine m m'
 same_twice first last = record { operands = last.operands ∙ first.operands; calls = last.calls ∙ first.calls; runtime = both_same first.runtime last.runtime }

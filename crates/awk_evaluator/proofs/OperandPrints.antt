@@ -59,7 +59,7 @@ turned w ws vs = sym (ap (λ l. l ++ vs) (reverse-append (w ∷ []) ws) ∙ appe
 behind : (list : List Operand) (first : Naming) {m1 m2 m' : Runtime} {r : Result (List Value) Halt} → m1.names ≡ first → m2 ≡ m1 → Changes (operand_values m2.names.scalars list) m2 m' r → Changes (operand_values first.scalars list) m1 m' r
 behind list first {m1 = m1} {m' = m'} {r = r} names same h = subst (λ (n : Naming). Changes (operand_values n.scalars list) m1 m' r) names (subst (λ (x : Runtime). Changes (operand_values x.names.scalars list) x m' r) same h)
 
-module _ (a : Operand) (list : List Operand) (m m1 m2 : Machine) {w : Value} (read : ReadsOperand a m (Ok w) m1) (pushed : m2.operands ≡ record m1.operands { values = w ∷ m1.operands.values }) (calls : m2.calls ≡ m1.calls) (runtime : m2.runtime ≡ m1.runtime) where
+module _ (a : Operand) (list : List Operand) (m m1 m2 : Machine) {w : Value} (read : ReadsOperand a m (Ok w) m1) (pushed : m2.operands ≡ record m1.operands { values = w ∷ m1.operands.values }) (calls : m2.runtime.frames.callers ≡ m1.runtime.frames.callers) (runtime : m2.runtime ≡ m1.runtime) where
   pub one_put : {m' : Machine} {r : Result (Unit {0}) Halt} → PutsOperands list m2 r m' → PutsOperands (a ∷ list) m r m'
   one_put {m' = m'} {r = r} p = record { puts = by r p.puts }
     where
@@ -112,7 +112,7 @@ own_dropped ws vs n long =
 
 module _ {is_logged : Type 0} {list : List Operand} {m m1 m' : Machine} {k k' : WorldState} where
   -- what was put on the stack is printed, and taken off
-  pub operands_printed : {vs : List Value} (r : Result (Unit {0}) Halt) → 0 < length list → PutsOperands list m (Ok tt) m1 → vs ≡ taken (length list) m1.operands.values → m'.operands ≡ record m1.operands { values = drop (length list) m1.operands.values } → m'.calls ≡ m1.calls
+  pub operands_printed : {vs : List Value} (r : Result (Unit {0}) Halt) → 0 < length list → PutsOperands list m (Ok tt) m1 → vs ≡ taken (length list) m1.operands.values → m'.operands ≡ record m1.operands { values = drop (length list) m1.operands.values } → m'.runtime.frames.callers ≡ m1.runtime.frames.callers
       → Prints is_logged m1.runtime k m'.runtime k' r vs → PrintsOperands is_logged list m k r m' k'
   operands_printed {vs = vs} r there p are operands calls printing = by r simulates
     where
@@ -155,7 +155,7 @@ module _ {is_logged : Type 0} {list : List Operand} {m m1 m' : Machine} {k k' : 
       }
 
 -- there is no operand
-pub none_printed : {is_logged : Type 0} (list : List Operand) {m m' : Machine} {k k' : WorldState} (r : Result (Unit {0}) Halt) → length list ≡ 0 → m'.operands ≡ m.operands → m'.calls ≡ m.calls → Prints is_logged m.runtime k m'.runtime k' r (Nothing ∷ []) → PrintsOperands is_logged list m k r m' k'
+pub none_printed : {is_logged : Type 0} (list : List Operand) {m m' : Machine} {k k' : WorldState} (r : Result (Unit {0}) Halt) → length list ≡ 0 → m'.operands ≡ m.operands → m'.runtime.frames.callers ≡ m.runtime.frames.callers → Prints is_logged m.runtime k m'.runtime k' r (Nothing ∷ []) → PrintsOperands is_logged list m k r m' k'
 none_printed {is_logged = is_logged} [] {m = m} {m' = m'} {k = k} {k' = k'} r none operands calls printing = by r line
   where
     line : Simulates is_logged m.runtime k m'.runtime k' r (print_operands m.runtime.names.scalars [])
@@ -175,7 +175,7 @@ line_of_one names a s =
     assoc_at (operand_value names a) rest line s
     ∙ later_same (operand_value names a) (λ w. rest w >>= line) (λ w. line (w ∷ [])) s (λ w t. first_same (rest w) (ret (w ∷ [])) line t (given [] (λ ws. ret (w ∷ ws)) t) ∙ given (w ∷ []) line t)
 
-pub field_held : {is_logged : Type 0} {a : Operand} {m m' : Machine} {k k' : WorldState} (n : ℤ) → IsFieldOf a n m → m'.operands ≡ m.operands → m'.calls ≡ m.calls
+pub field_held : {is_logged : Type 0} {a : Operand} {m m' : Machine} {k k' : WorldState} (n : ℤ) → IsFieldOf a n m → m'.operands ≡ m.operands → m'.runtime.frames.callers ≡ m.runtime.frames.callers
     → ((functions : Functions) → Simulates is_logged m.runtime k m'.runtime k' (Ok tt) (read_field n >>= λ w. ret 0 >>= λ i. print_by functions Print i (w ∷ []))) → PrintsOperands is_logged (a ∷ []) m k (Ok tt) m' k'
 field_held {a = a} {m = m} n field operands calls printing =
     let line : Value → Run (Unit {0}) = λ w. print_line 0 (w ∷ []) in

@@ -91,7 +91,7 @@ module _ {m m1 m' : Machine} (kept : Keeps m1 m') where
   puts_kept {a = a} {r = r} is p = subst (λ (q : Result (Unit {0}) Halt). PutsKeys a m q m') (sym is) (record { puts = by r p.puts })
     where
       by : (q : Result (Unit {0}) Halt) → PutsKeysBy a m q m1 → PutsKeysBy a m (without_value q) m'
-      by (Ok u) p = (p.0, subst (λ (y : Runtime). Changes (keys_of_array a) m.runtime y (Ok p.0)) (sym kept.runtime) p.1, kept.operands ∙ p.2, kept.calls ∙ p.3)
+      by (Ok u) p = (p.0, subst (λ (y : Runtime). Changes (keys_of_array a) m.runtime y (Ok p.0)) (sym kept.runtime) p.1, kept.operands ∙ p.2)
       by (Err h) p = subst (λ (y : Runtime). Changes (keys_of_array a) m.runtime y (Err h)) (sym kept.runtime) p
 
   takes_by : {x : Variable} (r : Result (Unit {0}) Halt) → TakesKey x m r m1 → TakesKey x m (without_value r) m'
@@ -144,7 +144,7 @@ related_with_compares {o = o} {b = b} {holds = holds} {m = m} {m' = m'} r p = re
 -- assignments
 
 -- a number is assigned in the place of the topmost value
-pub number_assigned : (n : ℤ) {o : AssignmentOperator} {x : Variable} {m m' : Machine} → AssignsAlike o (first m.operands.values) (value.Number n) → GivesNumber (assign_variable m.runtime.names.scalars o x (value.Number n)) m.runtime m'.runtime → m'.operands ≡ record m.operands { values = drop 1 m.operands.values } → m'.calls ≡ m.calls → Done (λ r. Computes (v.Assign o (place.Variable x)) m r m') (Ok tt)
+pub number_assigned : (n : ℤ) {o : AssignmentOperator} {x : Variable} {m m' : Machine} → AssignsAlike o (first m.operands.values) (value.Number n) → GivesNumber (assign_variable m.runtime.names.scalars o x (value.Number n)) m.runtime m'.runtime → m'.operands ≡ record m.operands { values = drop 1 m.operands.values } → m'.runtime.frames.callers ≡ m.runtime.frames.callers → Done (λ r. Computes (v.Assign o (place.Variable x)) m r m') (Ok tt)
 number_assigned n {o = o} {x = x} {m = m} {m' = m'} alike g operands calls = record {
   done = (
     value.Number g.number,
@@ -162,7 +162,7 @@ pub alike_itself : (o : AssignmentOperator) {v w : Value} → v ≡ w → Assign
 alike_itself o e = λ names p operand. ap (λ u. assign_by_at names (operator_of o) p operand u) e
 
 -- a value is assigned to an element in the place of the topmost one
-pub element_assigned : (w : Value) {o : AssignmentOperator} {a : Array} {m m' : Machine} → AssignsAlike o (first m.operands.values) w → Gives (assign_by_at m.runtime.names.scalars (operator_of o) (place.Element a) (second m.operands.values) w) m.runtime (Ok tt) m'.runtime → m'.operands ≡ record m.operands { values = drop 2 m.operands.values } → m'.calls ≡ m.calls → Done (λ r. Computes (v.Assign o (place.Element a)) m r m') (Ok tt)
+pub element_assigned : (w : Value) {o : AssignmentOperator} {a : Array} {m m' : Machine} → AssignsAlike o (first m.operands.values) w → Gives (assign_by_at m.runtime.names.scalars (operator_of o) (place.Element a) (second m.operands.values) w) m.runtime (Ok tt) m'.runtime → m'.operands ≡ record m.operands { values = drop 2 m.operands.values } → m'.runtime.frames.callers ≡ m.runtime.frames.callers → Done (λ r. Computes (v.Assign o (place.Element a)) m r m') (Ok tt)
 element_assigned w {a = a} {m = m} {m' = m'} alike g operands calls = record {
   done = (
     g.gives.0,
@@ -175,11 +175,11 @@ element_assigned w {a = a} {m = m} {m' = m'} alike g operands calls = record {
 }
 
 -- an element's number is raised
-pub element_raised : {o : IncrementOperator} {a : Array} {m m' : Machine} {w : Value} → Changes (post_increment_at m.runtime.names.scalars o (place.Element a) (first m.operands.values)) m.runtime m'.runtime (Ok w) → m'.operands ≡ record m.operands { values = drop 1 m.operands.values } → m'.calls ≡ m.calls → Done (λ r. Computes (v.PostIncrement o (place.Element a)) m r m') (Ok tt)
+pub element_raised : {o : IncrementOperator} {a : Array} {m m' : Machine} {w : Value} → Changes (post_increment_at m.runtime.names.scalars o (place.Element a) (first m.operands.values)) m.runtime m'.runtime (Ok w) → m'.operands ≡ record m.operands { values = drop 1 m.operands.values } → m'.runtime.frames.callers ≡ m.runtime.frames.callers → Done (λ r. Computes (v.PostIncrement o (place.Element a)) m r m') (Ok tt)
 element_raised {w = w} h operands calls = record { done = (w, record { operands = operands; calls = calls; changes = λ tables functions. h }) }
 
 -- what became of a place that is given the topmost value
-given_by : (x : ValueNode) {run : Run Value} {m mid m' : Machine} (r : Result (Unit {0}) Halt) → Keeps mid m' → mid.operands ≡ record m.operands { values = drop (popped x) m.operands.values } → mid.calls ≡ m.calls → ((tables : Tables) (functions : Functions) (q : Result Value Halt) → Changes run m.runtime mid.runtime q → Changes (value_of (tables_in m.runtime.names tables) functions x m.operands.values) m.runtime mid.runtime q) → Gives run m.runtime r mid.runtime → Done (λ q. Computes x m q m') (without_value r)
+given_by : (x : ValueNode) {run : Run Value} {m mid m' : Machine} (r : Result (Unit {0}) Halt) → Keeps mid m' → mid.operands ≡ record m.operands { values = drop (popped x) m.operands.values } → mid.runtime.frames.callers ≡ m.runtime.frames.callers → ((tables : Tables) (functions : Functions) (q : Result Value Halt) → Changes run m.runtime mid.runtime q → Changes (value_of (tables_in m.runtime.names tables) functions x m.operands.values) m.runtime mid.runtime q) → Gives run m.runtime r mid.runtime → Done (λ q. Computes x m q m') (without_value r)
 given_by x {m = m} {mid = mid} {m' = m'} (Ok u) kept operands calls means g = record {
   done = (
     g.gives.0,
@@ -190,15 +190,15 @@ given_by x {m = m} {mid = mid} {m' = m'} (Err h) kept operands calls means g = r
   done = computes_kept {m = m} {m1 = mid} {m' = m'} kept {x = x} {r = Err h} (record { operands = tt; calls = tt; changes = λ tables functions. means tables functions (Err h) g.gives });
 }
 
-pub element_given : {a : Array} {m mid m' : Machine} (r : Result (Unit {0}) Halt) {s : Result (Unit {0}) Halt} → s ≡ without_value r → Keeps mid m' → Gives (assign_by_at m.runtime.names.scalars None (place.Element a) (second m.operands.values) (first m.operands.values)) m.runtime r mid.runtime → mid.operands ≡ record m.operands { values = drop 2 m.operands.values } → mid.calls ≡ m.calls → Done (λ q. Computes (v.Assign assignment.Plain (place.Element a)) m q m') s
+pub element_given : {a : Array} {m mid m' : Machine} (r : Result (Unit {0}) Halt) {s : Result (Unit {0}) Halt} → s ≡ without_value r → Keeps mid m' → Gives (assign_by_at m.runtime.names.scalars None (place.Element a) (second m.operands.values) (first m.operands.values)) m.runtime r mid.runtime → mid.operands ≡ record m.operands { values = drop 2 m.operands.values } → mid.runtime.frames.callers ≡ m.runtime.frames.callers → Done (λ q. Computes (v.Assign assignment.Plain (place.Element a)) m q m') s
 element_given {a = a} {m = m} {mid = mid} {m' = m'} r is kept g operands calls = subst (λ (s : Result (Unit {0}) Halt). Done (λ q. Computes (v.Assign assignment.Plain (place.Element a)) m q m') s) (sym is) (given_by (v.Assign assignment.Plain (place.Element a)) {m = m} {mid = mid} {m' = m'} r kept operands calls (λ tables functions q c. c) g)
 
-pub field_given : {m mid m' : Machine} (r : Result (Unit {0}) Halt) {s : Result (Unit {0}) Halt} → s ≡ without_value r → Keeps mid m' → Gives (assign_by_at m.runtime.names.scalars None place.Field (second m.operands.values) (first m.operands.values)) m.runtime r mid.runtime → mid.operands ≡ record m.operands { values = drop 2 m.operands.values } → mid.calls ≡ m.calls → Done (λ q. Computes (v.Assign assignment.Plain place.Field) m q m') s
+pub field_given : {m mid m' : Machine} (r : Result (Unit {0}) Halt) {s : Result (Unit {0}) Halt} → s ≡ without_value r → Keeps mid m' → Gives (assign_by_at m.runtime.names.scalars None place.Field (second m.operands.values) (first m.operands.values)) m.runtime r mid.runtime → mid.operands ≡ record m.operands { values = drop 2 m.operands.values } → mid.runtime.frames.callers ≡ m.runtime.frames.callers → Done (λ q. Computes (v.Assign assignment.Plain place.Field) m q m') s
 field_given {m = m} {mid = mid} {m' = m'} r is kept g operands calls = subst (λ (s : Result (Unit {0}) Halt). Done (λ q. Computes (v.Assign assignment.Plain place.Field) m q m') s) (sym is) (given_by (v.Assign assignment.Plain place.Field) {m = m} {mid = mid} {m' = m'} r kept operands calls (λ tables functions q c. c) g)
 
 -- the same of a variable
 
-variable_by : {x : Variable} {m mid m' : Machine} (r : Result (Unit {0}) Halt) → Keeps mid m' → Gives (assign_by_at m.runtime.names.scalars None (place.Variable x) value.Nothing (first m.operands.values)) m.runtime r mid.runtime → mid.operands ≡ record m.operands { values = drop 1 m.operands.values } → mid.calls ≡ m.calls → Done (λ q. Computes (v.Assign assignment.Plain (place.Variable x)) m q m') (without_value r)
+variable_by : {x : Variable} {m mid m' : Machine} (r : Result (Unit {0}) Halt) → Keeps mid m' → Gives (assign_by_at m.runtime.names.scalars None (place.Variable x) value.Nothing (first m.operands.values)) m.runtime r mid.runtime → mid.operands ≡ record m.operands { values = drop 1 m.operands.values } → mid.runtime.frames.callers ≡ m.runtime.frames.callers → Done (λ q. Computes (v.Assign assignment.Plain (place.Variable x)) m q m') (without_value r)
 variable_by {x = x} {m = m} {mid = mid} {m' = m'} (Ok u) kept g operands calls = record {
   done = (
     g.gives.0,
@@ -217,11 +217,11 @@ variable_by {x = x} {m = m} {mid = mid} {m' = m'} (Err h) kept g operands calls 
   });
 }
 
-pub variable_given : {x : Variable} {m mid m' : Machine} (r : Result (Unit {0}) Halt) {s : Result (Unit {0}) Halt} → s ≡ without_value r → Keeps mid m' → Gives (assign_by_at m.runtime.names.scalars None (place.Variable x) value.Nothing (first m.operands.values)) m.runtime r mid.runtime → mid.operands ≡ record m.operands { values = drop 1 m.operands.values } → mid.calls ≡ m.calls → Done (λ q. Computes (v.Assign assignment.Plain (place.Variable x)) m q m') s
+pub variable_given : {x : Variable} {m mid m' : Machine} (r : Result (Unit {0}) Halt) {s : Result (Unit {0}) Halt} → s ≡ without_value r → Keeps mid m' → Gives (assign_by_at m.runtime.names.scalars None (place.Variable x) value.Nothing (first m.operands.values)) m.runtime r mid.runtime → mid.operands ≡ record m.operands { values = drop 1 m.operands.values } → mid.runtime.frames.callers ≡ m.runtime.frames.callers → Done (λ q. Computes (v.Assign assignment.Plain (place.Variable x)) m q m') s
 variable_given {x = x} {m = m} {mid = mid} {m' = m'} r is kept g operands calls = subst (λ (s : Result (Unit {0}) Halt). Done (λ q. Computes (v.Assign assignment.Plain (place.Variable x)) m q m') s) (sym is) (variable_by {x = x} {m = m} {mid = mid} {m' = m'} r kept g operands calls)
 
 -- a value at hand is assigned, by a number that is as good
-pub alike_read : (o : AssignmentOperator) (x : Variable) {a : Operand} {w : Value} (n : ℤ) {m m' : Machine} → IsAtHand a w m → AssignsAlike o w (value.Number n) → GivesNumber (assign_variable m.runtime.names.scalars o x (value.Number n)) m.runtime m'.runtime → m'.operands ≡ m.operands → m'.calls ≡ m.calls → Done (λ r. AssignsOperand o x a m r m') (Ok tt)
+pub alike_read : (o : AssignmentOperator) (x : Variable) {a : Operand} {w : Value} (n : ℤ) {m m' : Machine} → IsAtHand a w m → AssignsAlike o w (value.Number n) → GivesNumber (assign_variable m.runtime.names.scalars o x (value.Number n)) m.runtime m'.runtime → m'.operands ≡ m.operands → m'.runtime.frames.callers ≡ m.runtime.frames.callers → Done (λ r. AssignsOperand o x a m r m') (Ok tt)
 alike_read o x n {m = m} {m' = m'} at alike g operands calls = record {
   done = (
     value.Number g.number,
@@ -234,17 +234,17 @@ alike_read o x n {m = m} {m' = m'} at alike g operands calls = record {
 }
 
 -- a number at hand is assigned
-pub number_read : (o : AssignmentOperator) (x : Variable) {a : Operand} {n : ℤ} {m m' : Machine} → IsAtHand a (value.Number n) m → GivesNumber (assign_variable m.runtime.names.scalars o x (value.Number n)) m.runtime m'.runtime → m'.operands ≡ m.operands → m'.calls ≡ m.calls → Done (λ r. AssignsOperand o x a m r m') (Ok tt)
+pub number_read : (o : AssignmentOperator) (x : Variable) {a : Operand} {n : ℤ} {m m' : Machine} → IsAtHand a (value.Number n) m → GivesNumber (assign_variable m.runtime.names.scalars o x (value.Number n)) m.runtime m'.runtime → m'.operands ≡ m.operands → m'.runtime.frames.callers ≡ m.runtime.frames.callers → Done (λ r. AssignsOperand o x a m r m') (Ok tt)
 number_read o x at g operands calls = record { done = (value.Number g.number, record { operands = operands; calls = calls; changes = then_changes _ at.changes g.changes }) }
 
 -- behind a step that was spent
 
-module _ {m m1 : Machine} (s : Spends m.runtime m1.runtime (Ok tt)) (operands : m1.operands ≡ m.operands) (calls : m1.calls ≡ m.calls) where
+module _ {m m1 : Machine} (s : Spends m.runtime m1.runtime (Ok tt)) (operands : m1.operands ≡ m.operands) (calls : m1.runtime.frames.callers ≡ m.runtime.frames.callers) where
   -- what is done with the names of the run
   spent_leaves : (run : Naming → Run Value) {m' : Machine} (r : Result Value Halt) → Leaves (run m1.runtime.names) m1 r m' → Leaves (spend >>= λ _. run m.runtime.names) m r m'
   spent_leaves run {m' = m'} r u = by r u.operands u.calls (then_changes _ s.changes (subst (λ (names : Naming). Changes (run names) m1.runtime m'.runtime r) s.changes.names u.changes))
     where
-      by : (q : Result Value Halt) → OnOk q (m'.operands ≡ m1.operands) → OnOk q (m'.calls ≡ m1.calls) → Changes (spend >>= λ _. run m.runtime.names) m.runtime m'.runtime q → Leaves (spend >>= λ _. run m.runtime.names) m q m'
+      by : (q : Result Value Halt) → OnOk q (m'.operands ≡ m1.operands) → OnOk q (m'.runtime.frames.callers ≡ m1.runtime.frames.callers) → Changes (spend >>= λ _. run m.runtime.names) m.runtime m'.runtime q → Leaves (spend >>= λ _. run m.runtime.names) m q m'
       by (Ok w) o k changes = record { operands = o ∙ operands; calls = k ∙ calls; changes = changes }
       by (Err e) o k changes = record { operands = tt; calls = tt; changes = changes }
 
@@ -264,7 +264,7 @@ variable_updated o x a (Ok u) d = record { done = (d.done.0, record { operands =
 variable_updated o x a (Err h) d = record { done = record { operands = tt; calls = tt; changes = d.done.changes } }
 
 -- a variable's number is raised where it stands
-pub number_raised : {m m' : Machine} (o : IncrementOperator) (x : Variable) → GivesNumber (post_increment_at m.runtime.names.scalars o (place.Variable x) value.Nothing) m.runtime m'.runtime → m'.operands ≡ m.operands → m'.calls ≡ m.calls → Done (λ q. Raises o (target.Variable x) m q m') (Ok tt)
+pub number_raised : {m m' : Machine} (o : IncrementOperator) (x : Variable) → GivesNumber (post_increment_at m.runtime.names.scalars o (place.Variable x) value.Nothing) m.runtime m'.runtime → m'.operands ≡ m.operands → m'.runtime.frames.callers ≡ m.runtime.frames.callers → Done (λ q. Raises o (target.Variable x) m q m') (Ok tt)
 number_raised o x g operands calls = record { done = (value.Number g.number, record { operands = operands; calls = calls; changes = g.changes }) }
 
 -- no step is left

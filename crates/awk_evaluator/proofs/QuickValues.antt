@@ -62,7 +62,7 @@ field_of {m = m} n h = then_changes read_field (lift_changes (Ok n) m refl) h
 
 -- values that are put on the stack
 
-pub pushed_by : {E : Type 0} {v : Value} {m m' : Machine} (r : Result (Unit {0}) E) → is_ok r ≡ true → OnOk r (m'.operands ≡ record m.operands { values = v ∷ m.operands.values }) → m'.calls ≡ m.calls → m'.runtime ≡ m.runtime → Pushed v m m'
+pub pushed_by : {E : Type 0} {v : Value} {m m' : Machine} (r : Result (Unit {0}) E) → is_ok r ≡ true → OnOk r (m'.operands ≡ record m.operands { values = v ∷ m.operands.values }) → m'.runtime.frames.callers ≡ m.runtime.frames.callers → m'.runtime ≡ m.runtime → Pushed v m m'
 pushed_by (Ok u) ok operands calls runtime = record { operands = operands; calls = calls; runtime = runtime }
 pushed_by (Err e) ok operands calls runtime = cc
 
@@ -89,17 +89,17 @@ module _ {m between : Machine} (same : between ≡ m) where
   pub operand_puts_behind : {m' : Machine} {a : Operand} {w : Value} → IsAtHand a w m → Pushed w between m' → Puts (v.Put a) m m'
   operand_puts_behind {m' = m'} {w = w} at p = operand_puts at (subst (λ (x : Machine). Pushed w x m') same p)
 
-  pub operated_with_puts : {m' : Machine} {o : Operator} {b : Operand} {x y w : Value} → first m.operands.values ≡ x → IsAtHand b y m → applied o x y ≡ Ok w → m'.operands ≡ record between.operands { values = w ∷ drop 1 between.operands.values } → m'.calls ≡ between.calls → m'.runtime ≡ between.runtime → Puts (v.OperateWith (Infix o) b) m m'
+  pub operated_with_puts : {m' : Machine} {o : Operator} {b : Operand} {x y w : Value} → first m.operands.values ≡ x → IsAtHand b y m → applied o x y ≡ Ok w → m'.operands ≡ record between.operands { values = w ∷ drop 1 between.operands.values } → m'.runtime.frames.callers ≡ between.runtime.frames.callers → m'.runtime ≡ between.runtime → Puts (v.OperateWith (Infix o) b) m m'
   operated_with_puts {m' = m'} {o = o} {b = b} {x = x} {w = w} top right e operands calls runtime = record {
     value = w;
     operands = operands ∙ ap (λ (n : Machine). record n.operands { values = w ∷ drop 1 n.operands.values }) same;
-    calls = calls ∙ ap (λ (n : Machine). n.calls) same;
+    calls = calls ∙ ap (λ (n : Machine). n.runtime.frames.callers) same;
     changes = λ tables functions. rw (runtime, same, top) (operated_with_hand o right x e);
   }
 
 -- values that are put in the place of others
 
-pub operated_puts : {m m' : Machine} {o : Operator} {x y w : Value} → second m.operands.values ≡ x → first m.operands.values ≡ y → applied o x y ≡ Ok w → m'.operands ≡ record m.operands { values = w ∷ drop 1 (drop 1 m.operands.values) } → m'.calls ≡ m.calls → m'.runtime ≡ m.runtime → Puts (v.Operate (Infix o)) m m'
+pub operated_puts : {m m' : Machine} {o : Operator} {x y w : Value} → second m.operands.values ≡ x → first m.operands.values ≡ y → applied o x y ≡ Ok w → m'.operands ≡ record m.operands { values = w ∷ drop 1 (drop 1 m.operands.values) } → m'.runtime.frames.callers ≡ m.runtime.frames.callers → m'.runtime ≡ m.runtime → Puts (v.Operate (Infix o)) m m'
 operated_puts {m = m} {w = w} below top e operands calls runtime = record {
   value = w;
   operands = operands ∙ ap (λ (vs : List Value). record m.operands { values = w ∷ vs }) (drop_two m.operands.values);
@@ -107,7 +107,7 @@ operated_puts {m = m} {w = w} below top e operands calls runtime = record {
   changes = λ tables functions. rw (runtime, below, top) (lift_changes _ m.runtime e);
 }
 
-pub negated_puts : {m m' : Machine} (n : ℤ) {z : ℤ} → first m.operands.values ≡ value.Number n → negative_of n ≡ Ok z → m'.operands ≡ record m.operands { values = value.Number z ∷ drop 1 m.operands.values } → m'.calls ≡ m.calls → m'.runtime ≡ m.runtime → Puts (v.Change unary.Minus) m m'
+pub negated_puts : {m m' : Machine} (n : ℤ) {z : ℤ} → first m.operands.values ≡ value.Number n → negative_of n ≡ Ok z → m'.operands ≡ record m.operands { values = value.Number z ∷ drop 1 m.operands.values } → m'.runtime.frames.callers ≡ m.runtime.frames.callers → m'.runtime ≡ m.runtime → Puts (v.Change unary.Minus) m m'
 negated_puts {m = m} n {z = z} top e operands calls runtime = record {
   value = value.Number z;
   operands = operands;
@@ -115,7 +115,7 @@ negated_puts {m = m} n {z = z} top e operands calls runtime = record {
   changes = λ tables functions. rw (runtime, top) (lift_changes _ m.runtime (ap (λ r. of_values (number_value r)) e));
 }
 
-pub field_puts : {m m' : Machine} (n : ℤ) {w : Value} → first m.operands.values ≡ value.Number n → Changes (read_field n) m.runtime m'.runtime (Ok w) → m'.operands ≡ record m.operands { values = w ∷ drop 1 m.operands.values } → m'.calls ≡ m.calls → Puts v.ReadField m m'
+pub field_puts : {m m' : Machine} (n : ℤ) {w : Value} → first m.operands.values ≡ value.Number n → Changes (read_field n) m.runtime m'.runtime (Ok w) → m'.operands ≡ record m.operands { values = w ∷ drop 1 m.operands.values } → m'.runtime.frames.callers ≡ m.runtime.frames.callers → Puts v.ReadField m m'
 field_puts {m = m} n {w = w} top h operands calls = record {
   value = w;
   operands = operands;
@@ -124,7 +124,7 @@ field_puts {m = m} n {w = w} top h operands calls = record {
 }
 
 -- whether there is an element at the topmost value
-pub contains_puts : {m m' : Machine} {a : Array} {key : Value} {found : Bool} → key ≡ first m.operands.values → Changes (contains_at a (str_of key)) m.runtime m.runtime (Ok found) → m'.operands ≡ record m.operands { values = truth_value found ∷ drop 1 m.operands.values } → m'.calls ≡ m.calls → m'.runtime ≡ m.runtime → Puts (v.Contains a None) m m'
+pub contains_puts : {m m' : Machine} {a : Array} {key : Value} {found : Bool} → key ≡ first m.operands.values → Changes (contains_at a (str_of key)) m.runtime m.runtime (Ok found) → m'.operands ≡ record m.operands { values = truth_value found ∷ drop 1 m.operands.values } → m'.runtime.frames.callers ≡ m.runtime.frames.callers → m'.runtime ≡ m.runtime → Puts (v.Contains a None) m m'
 contains_puts {m = m} {a = a} {found = found} top h operands calls runtime = record {
   value = truth_value found;
   operands = operands;
@@ -138,7 +138,7 @@ first_taken : (vs : List Value) → 0 < length vs → taken 1 vs ≡ first vs �
 first_taken [] there = absurd (omega arith)
 first_taken (v ∷ vs) there = refl
 
-pub length_puts : {m m' : Machine} (count : ℕ) {w : Value} (n : ℤ) → count ≡ 1 → w ≡ first m.operands.values → 0 < length m.operands.values → n ≡ pos (length (str_of w)) → m'.operands ≡ record m.operands { values = value.Number n ∷ drop 1 m.operands.values } → m'.calls ≡ m.calls → m'.runtime ≡ m.runtime → Puts (v.Apply Length count) m m'
+pub length_puts : {m m' : Machine} (count : ℕ) {w : Value} (n : ℤ) → count ≡ 1 → w ≡ first m.operands.values → 0 < length m.operands.values → n ≡ pos (length (str_of w)) → m'.operands ≡ record m.operands { values = value.Number n ∷ drop 1 m.operands.values } → m'.runtime.frames.callers ≡ m.runtime.frames.callers → m'.runtime ≡ m.runtime → Puts (v.Apply Length count) m m'
 length_puts {m = m} {m' = m'} count {w = w} n one top there is operands calls runtime = subst (λ (k : ℕ). Puts (v.Apply Length k) m m') (sym one) record {
   value = value.Number n;
   operands = operands;
@@ -177,7 +177,7 @@ number_alike a v found other e = subst (λ (o : Option ℤ). IfSome o (λ n. Ass
 
 -- what is changed where it stands, and put on the stack
 
-module _ {m m' : Machine} (o : OperandsView) (pushed : o ≡ record m.operands { values = value.Nothing ∷ m.operands.values }) {z : ℤ} (replaced : m'.operands ≡ record o { values = value.Number z ∷ drop 1 o.values }) (calls : m'.calls ≡ m.calls) where
+module _ {m m' : Machine} (o : OperandsView) (pushed : o ≡ record m.operands { values = value.Nothing ∷ m.operands.values }) {z : ℤ} (replaced : m'.operands ≡ record o { values = value.Number z ∷ drop 1 o.values }) (calls : m'.runtime.frames.callers ≡ m.runtime.frames.callers) where
   pub raised_puts : (a : IncrementOperator) (x : Variable) → Changes (post_increment_at m.runtime.names.scalars a (place.Variable x) value.Nothing) m.runtime m'.runtime (Ok (value.Number z)) → Puts (v.PostIncrementAt a (target.Variable x)) m m'
   raised_puts a x h = record {
     value = value.Number z;
@@ -195,7 +195,7 @@ module _ {m m' : Machine} (o : OperandsView) (pushed : o ≡ record m.operands {
   }
 
 pub assigned_puts : {m m' : Machine} {n z : ℤ} (a : AssignmentOperator) (x : Variable) → first m.operands.values ≡ value.Number n → Changes (assign_by_at m.runtime.names.scalars (operator_of a) (place.Variable x) value.Nothing (value.Number n)) m.runtime m'.runtime (Ok (value.Number z))
-    → m'.operands ≡ record m.operands { values = value.Number z ∷ drop 1 m.operands.values } → m'.calls ≡ m.calls → Puts (v.Assign a (place.Variable x)) m m'
+    → m'.operands ≡ record m.operands { values = value.Number z ∷ drop 1 m.operands.values } → m'.runtime.frames.callers ≡ m.runtime.frames.callers → Puts (v.Assign a (place.Variable x)) m m'
 assigned_puts {m = m} {m' = m'} {z = z} a x top h operands calls = record {
   value = value.Number z;
   operands = operands;
@@ -204,7 +204,7 @@ assigned_puts {m = m} {m' = m'} {z = z} a x top h operands calls = record {
 }
 
 pub field_assigned_puts : {m m' : Machine} {k n : ℤ} → second m.operands.values ≡ value.Number k → first m.operands.values ≡ value.Number n → Changes (assign_by_at m.runtime.names.scalars None place.Field (value.Number k) (value.Number n)) m.runtime m'.runtime (Ok (value.Number n))
-    → m'.operands ≡ record m.operands { values = value.Number n ∷ drop 1 (drop 1 m.operands.values) } → m'.calls ≡ m.calls → Puts (v.Assign assignment.Plain place.Field) m m'
+    → m'.operands ≡ record m.operands { values = value.Number n ∷ drop 1 (drop 1 m.operands.values) } → m'.runtime.frames.callers ≡ m.runtime.frames.callers → Puts (v.Assign assignment.Plain place.Field) m m'
 field_assigned_puts {m = m} {n = n} below top h operands calls = record {
   value = value.Number n;
   operands = operands ∙ ap (λ (vs : List Value). record m.operands { values = value.Number n ∷ vs }) (drop_two m.operands.values);
@@ -217,7 +217,7 @@ pub joined_puts : {m m' : Machine} {a b : Operand} {x y w : Value} → IsAtHand 
 joined_puts {m = m} left right is p = pushed_puts refl (λ tables functions. then_changes _ left.changes (then_changes _ right.changes (lift_changes _ m.runtime (ap Ok (sym is))))) p
 
 -- an element that is there
-pub element_puts : {m m' : Machine} {a : Array} {key w : Value} → key ≡ first m.operands.values → Changes (read_element_of a (str_of key)) m.runtime m.runtime (Ok w) → m'.operands ≡ record m.operands { values = w ∷ drop 1 m.operands.values } → m'.calls ≡ m.calls → m'.runtime ≡ m.runtime → Puts (v.ReadElement a None) m m'
+pub element_puts : {m m' : Machine} {a : Array} {key w : Value} → key ≡ first m.operands.values → Changes (read_element_of a (str_of key)) m.runtime m.runtime (Ok w) → m'.operands ≡ record m.operands { values = w ∷ drop 1 m.operands.values } → m'.runtime.frames.callers ≡ m.runtime.frames.callers → m'.runtime ≡ m.runtime → Puts (v.ReadElement a None) m m'
 element_puts {m = m} {a = a} {w = w} top h operands calls runtime = record {
   value = w;
   operands = operands;
@@ -226,7 +226,7 @@ element_puts {m = m} {a = a} {w = w} top h operands calls runtime = record {
 }
 
 -- the number of an element that is raised
-pub element_raised_puts : {m m' : Machine} {o : IncrementOperator} {a : Array} {key : Value} {z : ℤ} → key ≡ first m.operands.values → Changes (post_increment_at m.runtime.names.scalars o (place.Element a) key) m.runtime m'.runtime (Ok (value.Number z)) → m'.operands ≡ record m.operands { values = value.Number z ∷ drop 1 m.operands.values } → m'.calls ≡ m.calls → Puts (v.PostIncrement o (place.Element a)) m m'
+pub element_raised_puts : {m m' : Machine} {o : IncrementOperator} {a : Array} {key : Value} {z : ℤ} → key ≡ first m.operands.values → Changes (post_increment_at m.runtime.names.scalars o (place.Element a) key) m.runtime m'.runtime (Ok (value.Number z)) → m'.operands ≡ record m.operands { values = value.Number z ∷ drop 1 m.operands.values } → m'.runtime.frames.callers ≡ m.runtime.frames.callers → Puts (v.PostIncrement o (place.Element a)) m m'
 element_raised_puts {m = m} {m' = m'} {o = o} {a = a} {z = z} top h operands calls = record {
   value = value.Number z;
   operands = operands;

@@ -31,6 +31,6 @@ module _ {is_logged : Type 0} {plan : Plan} {m m' : Machine} {k : WorldState} {i
       leads = leads_on (λ tables functions. value_of tables functions x m.operands.values) (λ tables ds b u. cont tables ds plan b i (u ∷ drop (popped x) m.operands.values)) (λ tables ds b. refl)
           (λ tables functions. change_simulates (p.changes tables functions))
           (λ tables ds b. ap (λ (o : OperandsView). cont tables ds plan b i o.values) (sym p.operands))
-          (ap (λ es. seen_of m'.operands es) p.calls ∙ ap (λ (o : OperandsView). seen_of o m.calls) p.operands);
+          (ap (λ es. seen_of m'.operands es) p.calls ∙ ap (λ (o : OperandsView). seen_of o m.runtime.frames.callers) p.operands);
     };
   }

@@ -101,7 +101,7 @@ numbers_operated o m n same next of left right e p = operated_on_puts same next 
 
 -- matches
 
-pub stretch_matched : {a : Operand} {ere : ℕ} {m m' : Machine} {text spelling : List ℕ} {holds : Bool} → IsAtHand a (value.Input text) m → spelling ≡ ere_at m.runtime.names ere → SameState m.runtime m'.runtime → m'.operands ≡ m.operands → m'.calls ≡ m.calls → matched (pattern_in spelling) text ≡ Ok holds → Compares (v.Matches a ere) m (Ok holds) m'
+pub stretch_matched : {a : Operand} {ere : ℕ} {m m' : Machine} {text spelling : List ℕ} {holds : Bool} → IsAtHand a (value.Input text) m → spelling ≡ ere_at m.runtime.names ere → SameState m.runtime m'.runtime → m'.operands ≡ m.operands → m'.runtime.frames.callers ≡ m.runtime.frames.callers → matched (pattern_in spelling) text ≡ Ok holds → Compares (v.Matches a ere) m (Ok holds) m'
 stretch_matched {a = a} {ere = ere} {m = m} {text = text} {holds = holds} at is same operands calls e = record {
   compares = (
     truth_value holds,
@@ -110,7 +110,7 @@ stretch_matched {a = a} {ere = ere} {m = m} {text = text} {holds = holds} at is 
   );
 }
 
-pub stretches_matched : {a : Operand} (ere : ℕ) {m : Machine} (m' : Machine) {text : List ℕ} (found : Option Bool) → IsAtHand a (value.Input text) m → SameState m.runtime m'.runtime → m'.operands ≡ m.operands → m'.calls ≡ m.calls → IfSome found (λ holds. matched (pattern_in (ere_at m.runtime.names ere)) text ≡ Ok holds) → IfSome found (λ holds. Compares (v.Matches a ere) m (Ok holds) m')
+pub stretches_matched : {a : Operand} (ere : ℕ) {m : Machine} (m' : Machine) {text : List ℕ} (found : Option Bool) → IsAtHand a (value.Input text) m → SameState m.runtime m'.runtime → m'.operands ≡ m.operands → m'.runtime.frames.callers ≡ m.runtime.frames.callers → IfSome found (λ holds. matched (pattern_in (ere_at m.runtime.names ere)) text ≡ Ok holds) → IfSome found (λ holds. Compares (v.Matches a ere) m (Ok holds) m')
 stretches_matched ere m' (Some holds) at same operands calls e = stretch_matched at refl same operands calls e
 stretches_matched ere m' None at same operands calls e = tt
 

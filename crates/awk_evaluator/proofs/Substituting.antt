@@ -22,7 +22,7 @@ module _ (m m' : Machine) (all : Bool) (ere : ℕ) (x : Variable) {replacement o
       rw (second_is m.operands.values, both.0, both.1) h
 
   pub substituted_puts : {w : Value} → ((tables : Tables) → Changes (substitute_by (tables_in m.runtime.names tables) all (Some ere) (place.Variable x) replacement old (replacement ∷ [])) m.runtime m'.runtime (Ok w))
-      → m'.operands ≡ record m.operands { values = w ∷ drop 1 (drop 1 m.operands.values) } → m'.calls ≡ m.calls → Puts (v.Substitute all (Some ere) (Some (place.Variable x))) m m'
+      → m'.operands ≡ record m.operands { values = w ∷ drop 1 (drop 1 m.operands.values) } → m'.runtime.frames.callers ≡ m.runtime.frames.callers → Puts (v.Substitute all (Some ere) (Some (place.Variable x))) m m'
   substituted_puts {w = w} h operands calls = record {
     value = w;
     operands = operands ∙ ap (λ (vs : List Value). record m.operands { values = w ∷ vs }) (drop_two m.operands.values);

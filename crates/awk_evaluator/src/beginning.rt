@@ -5,11 +5,11 @@ ghost use Rattle.awk_resolve.specs.Nodes.{taken, values_among};
 ghost use Rattle.awk_runtime.specs.Calling.{Gives};
 ghost use Rattle.awk_evaluator.specs.Calling.{kept_by, BeginsCall, GivesAll};
 
-use crate::entry::Entry;
 use crate::machine::Machine;
 use awk_resolve::Function;
 use awk_resolve::node::ArgumentForm;
 use awk_semantics::Halt;
+use awk_storage::Caller;
 use awk_value::Value;
 
 /// How an argument is given.
@@ -83,10 +83,13 @@ impl Machine {
         self.runtime.check_height(function.height)?;
         self.runtime.spend()?;
         self.give_arguments(forms)?;
+        let caller = Caller {
+            next,
+            base: self.operands.base(),
+        };
         self.runtime
-            .enter_call(function.arrays.as_slice(), function.height)?;
-        let base = self.operands.enter();
-        self.calls.enter(Entry { next, base })?;
+            .enter_call(function.arrays.as_slice(), function.height, caller)?;
+        self.operands.enter();
         Ok(function.body)
     }
 
@@ -159,7 +162,6 @@ impl Machine {
     fn give_argument(&mut self, form: ArgumentForm, count: usize, given: usize) -> Result<(), Halt>
         ensures gives { Gives (kept_by form (drop given (taken count self.old.operands.values)) self.old.runtime.frames) self.old.runtime self.new.runtime result }
         ensures operands { self.new.operands ≡ self.old.operands }
-        ensures calls { self.new.calls ≡ self.old.calls }
     {
         match form {
             ArgumentForm::Value => {

@@ -4,11 +4,9 @@
 mod appends;
 mod at_key;
 mod beginning;
-pub mod calls;
 mod comparisons;
 mod effects;
 mod elements;
-pub mod entry;
 mod evaluate;
 mod field_arithmetic;
 mod function_values;

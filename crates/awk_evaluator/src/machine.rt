@@ -6,7 +6,6 @@ ghost use Rattle.awk_runtime.specs.Calling.{EndsCalls};
 ghost use Rattle.awk_evaluator.specs.Rest.{IsSound, AtPlace};
 ghost use Rattle.awk_evaluator.specs.Moves.{IsIdle, Turns, Steps, Ends, Done, Executes, Keeps, came, told, without_value, truth_in};
 
-use crate::calls::Calls;
 use crate::moves::{node_at, node_within};
 use crate::operands::Operands;
 use crate::room::Room;
@@ -18,12 +17,11 @@ use awk_streams::World;
 use awk_value::{Value, is_true};
 use std::mem;
 
-/// A run: its state, the operands of the active calls, and where their callers go on.
+/// A run: its state, and the operands of the active calls.
 #[derive(Drop)]
 pub struct Machine {
     pub runtime: Runtime,
     pub operands: Operands,
-    pub calls: Calls,
     /// The memory in which texts are joined.
     pub text: Room,
     /// Why the run ended, where a move says that it is halted.
@@ -46,16 +44,15 @@ pub enum Move {
 }
 
 impl Machine {
-    /// A machine in which nothing is active. Takes no memory.
+    /// A machine in which nothing is active but the calls of this state. Takes no memory.
     pub fn new(runtime: Runtime) -> Machine
         ensures runtime { result.runtime ≡ runtime }
-        ensures idle { IsIdle result }
+        ensures idle { runtime.frames.callers ≡ [] → IsIdle result }
     {
         let alloc = runtime.alloc;
         Machine {
             runtime,
             operands: Operands::new(alloc),
-            calls: Calls::new(alloc),
             text: Room {
                 bytes: Vec::new(alloc),
             },
@@ -88,7 +85,6 @@ impl Machine {
         ensures ends { EndsCalls self.old.runtime self.new.runtime }
     {
         self.operands.clear();
-        self.calls.clear();
         self.runtime.end_calls();
     }
 

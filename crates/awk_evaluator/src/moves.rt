@@ -191,12 +191,11 @@ impl Machine {
     fn give_back(&mut self) -> Move
         ensures { GivesBack (first self.old.operands.values) self.old result self.new }
     {
-        let Some(entry) = self.calls.leave() else {
+        let Some(caller) = self.runtime.leave_call() else {
             return Move::Over;
         };
-        self.runtime.leave_call();
-        match self.operands.hand_over(entry.base) {
-            Ok(()) => Move::Back(entry.next),
+        match self.operands.hand_over(caller.base) {
+            Ok(()) => Move::Back(caller.next),
             Err(refused) => self.halt_by(Halt::from(refused)),
         }
     }
@@ -206,7 +205,7 @@ impl Machine {
     pub(crate) fn give_nothing(&mut self) -> Move
         ensures { GivesBack Nothing self.old result self.new }
     {
-        if self.operands.are_none() && self.calls.are_over() {
+        if self.operands.are_none() && self.runtime.calls_are_over() {
             return Move::Over;
         }
         self.give_nothing_to_caller()

@@ -248,15 +248,20 @@ impl Operands {
         self.values.truncate(self.base);
     }
 
-    /// A call begins, which has no operands yet. Gives how many its callers' callers have.
+    /// How many operands the newest call's callers have.
     #[inline(always)]
-    pub fn enter(&mut self) -> usize
-        ensures base { result ≡ length self.old.below }
-        ensures entered { self.new ≡ record { values = []; below = all_of self.old } }
+    pub fn base(&self) -> usize
+        ensures { result ≡ length self.now.below }
     {
-        let base = self.base;
+        self.base
+    }
+
+    /// A call begins, which has no operands yet.
+    #[inline(always)]
+    pub fn enter(&mut self)
+        ensures { self.new ≡ record { values = []; below = all_of self.old } }
+    {
         self.base = self.values.len();
-        base
     }
 
     /// The newest call is over: its caller's operands are those behind so many.

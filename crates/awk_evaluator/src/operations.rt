@@ -75,7 +75,6 @@ impl Machine {
     /// What an operator makes of two values.
     fn join(&mut self, operator: BinaryOperator, left: Value, right: &Value) -> Result<Value, Halt>
         ensures operands { self.new.operands ≡ self.old.operands }
-        ensures calls { self.new.calls ≡ self.old.calls }
         ensures changes { Changes (lift (operated operator left right.now)) self.old.runtime self.new.runtime result }
     {
         match operator {

@@ -97,7 +97,6 @@ impl Machine {
         requires ready { IsReady W.is_logged (W.state world.old) self.old.runtime.streams }
         ensures ready { IsReady W.is_logged (W.state world.new) self.new.runtime.streams }
         ensures operands { self.new.operands ≡ self.old.operands }
-        ensures calls { self.new.calls ≡ self.old.calls }
         ensures follows { Follows W.is_logged (named_getline_at self.old.runtime.names.scalars kind (str_of name.now) place
             (first self.old.operands.values)) self.old.runtime (W.state world.old) self.new.runtime (W.state world.new) result }
     {

@@ -105,7 +105,6 @@ impl Machine {
     ) -> Result<Value, Halt>
         ensures rest { self.new.operands
             ≡ record self.old.operands { values = drop (pattern_operands ere) self.old.operands.values } }
-        ensures calls { self.new.calls ≡ self.old.calls }
         ensures changes { (tables : Tables) → Changes (substitute_by (tables_in self.old.runtime.names tables) all ere place
             operand.now old.now (replacement.now ∷ self.old.operands.values)) self.old.runtime self.new.runtime result }
     {

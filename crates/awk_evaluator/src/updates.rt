@@ -35,7 +35,6 @@ impl Machine {
     pub(crate) fn spend(&mut self) -> bool
         ensures spends { Spends self.old.runtime self.new.runtime (came result self.new) }
         ensures operands { self.new.operands ≡ self.old.operands }
-        ensures calls { self.new.calls ≡ self.old.calls }
     {
         let spent = self.runtime.spend();
         self.is_done(spent)

@@ -79,7 +79,6 @@ impl Machine {
     pub(crate) fn leave_walk(&mut self)
         ensures operands { self.new.operands ≡ record self.old.operands { values = drop (suc (keys_left (first self.old.operands.values))) self.old.operands.values } }
         ensures runtime { self.new.runtime ≡ self.old.runtime }
-        ensures calls { self.new.calls ≡ self.old.calls }
     {
         let count = self.operands.pop();
         let left = keys_left(&count);

@@ -1,5 +1,5 @@
 -- The main records, by what their parts do.
-use Rattle.std.proofs.Common.{◌≡◌, ℕ, ◌≤◌, ◌<◌, zero, suc, Bool, true, false, List, Some, None, Result, Ok, Err, refl, ◌∙◌, arith}
+use Rattle.std.proofs.Common.{◌≡◌, ℕ, ◌≤◌, ◌<◌, zero, suc, Bool, true, false, List, Some, None, Result, Ok, Err, refl, ap, ◌∙◌, arith}
 use Rattle.awk_value.specs.declared.value.Value.{Value}
 use Rattle.awk_streams.specs.WorldState.{WorldState}
 use Rattle.awk_resolve.specs.declared.plan.Plan.{Plan}
@@ -105,3 +105,13 @@ begun_in {found = false} b is = absurd (cc)
 pub over_in : {is_logged : Type 0} {m new : Runtime} {k k1 : WorldState} {found : Bool} → FindsNext is_logged m k new k1 (Ok found) → found ≡ false → Follows is_logged next_record m k new k1 (Ok None)
 over_in {found = true} p is = absurd (cc)
 over_in {found = false} p is = p
+
+-- the callers of the active calls stay as they were
+
+begins_keeps : {is_logged : Type 0} {m new : Runtime} {k k1 : WorldState} {r : Result (Unit {0}) Halt} → Begins is_logged m k new k1 r → new.frames.callers ≡ m.frames.callers
+begins_keeps b = b.begins.callers ∙ (b.spends.changes.callers ∙ b.reads.callers)
+
+pub keeps_callers : (is_logged : Type 0) (m new : Runtime) (k k1 : WorldState) (r : Result Bool Halt) → BeginsWhere is_logged m k new k1 r → new.frames.callers ≡ m.frames.callers
+keeps_callers is_logged m new k k1 (Ok true) b = begins_keeps b
+keeps_callers is_logged m new k k1 (Ok false) same = ap (λ (m : Runtime). m.frames.callers) same
+keeps_callers is_logged m new k k1 (Err h) b = begins_keeps b

@@ -25,7 +25,7 @@ use Rattle.awk_runtime.specs.declared.runtime.Runtime.{Runtime}
 use Rattle.awk_runtime.specs.support.Simulation.{OwnRelation, StreamsRelation, StateRelation, ResultRelationBy, ResultRelation, Changes}
 use Rattle.awk_runtime.specs.support.Naming.{Naming, AreOwn}
 use Rattle.awk_runtime.specs.support.Appends.{appended, LetsGo, AppendsText, AppendsAt}
-use Rattle.awk_runtime.proofs.Composition.{then_changes, ends_changes, lift_changes}
+use Rattle.awk_runtime.proofs.Composition.{then_changes, ends_changes, lift_changes, callers_stay}
 use Rattle.awk_runtime.proofs.Steps.{same_changes}
 use Rattle.awk_runtime.proofs.VariableWords.{SameButVariables, SameButFrames, plain, slot_read, slot_given, frames_after, with_local-is, local_given}
 use Rattle.awk_runtime.proofs.PlaceWords.{get-set, assigned, plainly_assigned}
@@ -60,6 +60,7 @@ own_alike variables e h = record {
   function_names = h.function_names;
   arrays = h.arrays;
   frames = h.frames;
+  staged = h.staged;
   next = h.next;
   input_seen = h.input_seen;
   inside = h.inside;
@@ -88,6 +89,7 @@ alike_changes {new = new} {r = r} x y e d = record {
   steps = d.steps;
   names = d.names;
   streams = d.streams;
+  callers = d.callers;
   means = λ k. record {
     grows = (d.means k).grows;
     means = λ oracle s past consistent stands.
@@ -154,12 +156,13 @@ local_overwritten i v w x y = same_changes (put_local i w) (put_local i v >>= λ
 -- letting go
 
 pub keeps_hold : (x : Variable) (m : Runtime) → LetsGo x m m
-keeps_hold x m = record { names = refl; streams = refl; steps = refl; puts = λ w h. h }
+keeps_hold x m = record { names = refl; streams = refl; callers = refl; steps = refl; puts = λ w h. h }
 
 pub slot_let_go : (i : ℕ) {old new : Runtime} → i < length old.globals.items → AreOwn old.names.scalars → AreDistinct old.names.scalars → new.globals.items ≡ set old.globals.items i value.Nothing → new.specials ≡ old.specials → SameButVariables old new → LetsGo (variable.Global i) old new
 slot_let_go i {old = old} {new = new} low own distinct put specials same = record {
   names = same.names;
   streams = same.streams;
+  callers = callers_stay same.frames;
   steps = same.steps;
   puts = λ w {after} {r} h.
       slot_overwritten (slice_get old.names.scalars i) i value.Nothing w refl own (slot_given i value.Nothing low own distinct put specials same)
@@ -170,6 +173,7 @@ pub local_let_go : (i : ℕ) {old new : Runtime} → new.frames ≡ record old.f
 local_let_go i put same = record {
   names = same.names;
   streams = same.streams;
+  callers = callers_stay put;
   steps = same.steps;
   puts = λ w h. local_overwritten i value.Nothing w (local_given i value.Nothing put same) h;
 }

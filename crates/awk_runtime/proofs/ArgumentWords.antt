@@ -24,7 +24,7 @@ pub key_joined : (m : Runtime) (vs : List Value) (subsep : Value) (r : Result (L
 unfolding joined_key
 key_joined m vs subsep (Ok key) is text memory = reads_changes (joined_key vs) (λ s. Ok (join (str_of (s.variables (name_of Subsep))) (map str_of vs))) (λ s. refl) (still m)
     (λ s h. ap (λ v. Ok (join (str_of v) (map str_of vs))) (h.specials Subsep ∙ sym is) ∙ ap (λ x. Ok x) (sym text))
-key_joined m vs subsep (Err h) is text memory = rw memory (memory_changes (joined_key vs) refl refl (omega arith))
+key_joined m vs subsep (Err h) is text memory = rw memory (memory_changes (joined_key vs) refl refl refl (omega arith))
 
 -- the elements of ARGV
 
@@ -43,7 +43,7 @@ fault_matches values.NegativePower = refl
 
 pub argument_faults : (m : Runtime) (fault : ValueFault) → num_of (value_of m.specials (name_of Argc)) ≡ Err fault → Changes take_argument m m (Err (halt.Fault (value_fault fault)))
 unfolding ◌>>=◌ go_on lift
-argument_faults m fault e = own_changes take_argument refl refl (omega arith) (λ s h. record {
+argument_faults m fault e = own_changes take_argument refl refl refl (omega arith) (λ s h. record {
   result = Err (halt.Fault (value_fault fault));
   state = s;
   is = argument_is m s (Err fault) h e;
@@ -57,7 +57,7 @@ unfolding ◌>>=◌ go_on lift
 argument_chosen m n b s e below h = argument_is m s (Ok n) h e ∙ ap (λ c. argument_if c s) (ap (λ i. int_lt i n) h.next ∙ below)
 
 pub argument_none : (m : Runtime) (n : ℤ) → num_of (value_of m.specials (name_of Argc)) ≡ Ok n → int_lt m.next n ≡ false → Changes take_argument m m (Ok None)
-argument_none m n e past = own_changes take_argument refl refl (omega arith) (λ s h. record {
+argument_none m n e past = own_changes take_argument refl refl refl (omega arith) (λ s h. record {
   result = Ok None;
   state = s;
   is = argument_chosen m n false s e past h;
@@ -69,7 +69,7 @@ argument_none m n e past = own_changes take_argument refl refl (omega arith) (λ
 pub argument_taken : (m : Runtime) (n : ℤ) {word : List ℕ} {next : ℤ} → num_of (value_of m.specials (name_of Argc)) ≡ Ok n → int_lt m.next n ≡ true
     → word ≡ argument_text m.arrays (number_in m.names.arrays (codes "ARGV")) m.next
     → ((i : ℕ) → m.next ≡ pos i → next ≡ pos (suc i)) → Changes take_argument m (record m { next = next }) (Ok (Some word))
-argument_taken m n {word = word} e more is next_is = own_changes take_argument refl refl (omega arith) (λ s h. record {
+argument_taken m n {word = word} e more is next_is = own_changes take_argument refl refl refl (omega arith) (λ s h. record {
   result = Ok (Some (argument_text s.arrays (number_in s.array_names (codes "ARGV")) (pos s.next)));
   state = record s { next = suc s.next };
   is = argument_chosen m n true s e more h;
@@ -86,6 +86,7 @@ argument_taken m n {word = word} e more is next_is = own_changes take_argument r
     function_names = h.function_names;
     arrays = h.arrays;
     frames = h.frames;
+    staged = h.staged;
     next = sym (next_is s.next (sym h.next));
     input_seen = h.input_seen;
     inside = h.inside;

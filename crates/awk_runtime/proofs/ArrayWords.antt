@@ -40,7 +40,7 @@ number-is (array.Global n) calls s same = refl
 number-is (array.Local i) calls s same = ap (λ fs. number_of_kept (slice_get (newest_of fs) i)) same ∙ kept_newest s.frames i
 
 pub number_holds : (a : Array) {m : Runtime} {s : State} → OwnRelation m s → kept_number a m.frames ≡ number_at a s
-number_holds a {m = m} {s = s} h = number-is a m.frames s (ap (λ (f : FramesView). f.frames) h.frames)
+number_holds a {m = m} {s = s} h = number-is a m.frames s h.frames
 
 -- the arrays alone are others
 
@@ -54,6 +54,7 @@ arrays_hold xs h = record {
   function_names = h.function_names;
   arrays = refl;
   frames = h.frames;
+  staged = h.staged;
   next = h.next;
   input_seen = h.input_seen;
   inside = h.inside;
@@ -65,7 +66,7 @@ arrays_hold xs h = record {
 array_changes : {A : Type 0} (m : Runtime) (run : Run A) (a : Array) (give : List Elements → ℕ → A) (change : List Elements → ℕ → List Elements) (n : ℕ) {r : A} {xs : List Elements}
     → ((s : State) → run s ≡ record { result = Ok (give s.arrays (number_at a s)); state = record s { arrays = change s.arrays (number_at a s) }; effects = [] })
     → n ≡ kept_number a m.frames → r ≡ give m.arrays n → xs ≡ change m.arrays n → Changes run m (record m { arrays = xs }) (Ok r)
-array_changes m run a give change n {r = r} {xs = xs} is number given made = own_changes run refl refl (omega arith) (λ s h.
+array_changes m run a give change n {r = r} {xs = xs} is number given made = own_changes run refl refl refl (omega arith) (λ s h.
     let n_is : number_at a s ≡ n = sym (number_holds a h) ∙ sym number in
     record {
       result = Ok (give s.arrays (number_at a s));

@@ -11,10 +11,9 @@ use Rattle.awk_semantics.specs.State.{Effect, Frame, State, Out, Run, go_on, ◌
 use Rattle.awk_semantics.specs.Results.{Sort, WantOfMemory, FailedWrite, OfLanguage, sort_of}
 use Rattle.awk_semantics.specs.Primitives.{most_height, height_in, fault_if, check_height, spend_of, spend, without_call, without_calls, outside_calls}
 use Rattle.awk_runtime.specs.declared.runtime.Runtime.{Runtime}
-use Rattle.awk_runtime.specs.support.Simulation.{OwnRelation, StateRelation, FailureRelation, ResultRelationBy, ResultRelation, Changes}
+use Rattle.awk_runtime.specs.support.Simulation.{OwnRelation, StateRelation, FailureRelation, ResultRelationBy, ResultRelation, ChangesCalls}
 use Rattle.awk_runtime.specs.support.Calling.{without_given, EndsCalls}
 use Rattle.awk_runtime.proofs.Composition.{OwnPart, streams_own}
-use Rattle.awk_runtime.proofs.Steps.{same_changes}
 use Rattle.awk_runtime.proofs.CallWords.{given_nothing}
 
 -- what a call is given
@@ -39,11 +38,22 @@ module _ {A : Type 0} (f : State → List Local) (h : ℕ) (k : List Local → R
   unfolding ◌>>=◌ go_on check_height
   given_later s = behind_check (nat_lt most_height (height_in s.frames + h)) s
 
+same_calls : {A : Type 0} {old new : Runtime} {r : Result A Halt} (x y : Run A) → ((s : State) → OwnRelation old s → x s ≡ y s) → ChangesCalls y old new r → ChangesCalls x old new r
+same_calls {old = old} {new = new} {r = r} x y e d = record {
+  steps = d.steps;
+  names = d.names;
+  streams = d.streams;
+  means = λ k. record {
+    grows = (d.means k).grows;
+    means = λ oracle s past consistent stands. subst (λ (o : Out _). ResultRelation oracle new k r o past) (sym (e s stands.holds)) ((d.means k).means oracle s past consistent stands);
+  };
+}
+
 -- what was given, and what is done with it
 pub given_changes : {A : Type 0} {m new : Runtime} {r : Result A Halt} (f : State → List Local) (locals : List Local) (k : List Local → Run A) → ((s : State) → OwnRelation m s → f s ≡ locals)
-    → Changes (k locals) (without_given m) new r → Changes (reads f >>= k) m new r
+    → ChangesCalls (k locals) (without_given m) new r → ChangesCalls (reads f >>= k) m new r
 unfolding ◌>>=◌ go_on
-given_changes f locals k are d = same_changes (reads f >>= k) (k locals) (λ s h. ap (λ given. k given s) (are s h)) (given_nothing (k locals) d)
+given_changes f locals k are d = same_calls (reads f >>= k) (k locals) (λ s h. ap (λ given. k given s) (are s h)) (given_nothing (k locals) d)
 
 -- no call is active any more
 

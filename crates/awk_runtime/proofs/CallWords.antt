@@ -1,6 +1,7 @@
 -- Calls of functions.
 use Rattle.std.proofs.Common.{get_or, ◌≡◌, ◌≤◌, ◌<◌, ◌+◌, ℕ, suc, Bool, true, false, List, [], ◌∷◌, ◌++◌, map, length, take, drop, Some, None, Result, Ok, Err, refl, sym, ap, ◌∙◌, subst, arith, append_assoc, append-nil, length-append}
-use Rattle.std.specs.Prelude.{nat_lt, if◌then◌else◌}
+use Rattle.std.specs.Prelude.{nat_lt, if◌then◌else◌, Option, slice_get, IfSome, IfNone}
+use Rattle.std.specs.Option.{option_map}
 use Rattle.std.proofs.lemmas.List.{take_more}
 use Rattle.std.proofs.lemmas.Bool.Decides.{nat_tests}
 use Rattle.awk_value.specs.declared.value.Value.TheVariants as value
@@ -12,11 +13,13 @@ use Rattle.awk_semantics.specs.declared.local.Local.TheVariants as local
 use Rattle.awk_semantics.specs.State.{Frame, State, Run}
 use Rattle.awk_semantics.specs.Primitives.{most_height, height_in, fault_if, check_height, bound, made, enter, without_call, leave, without_calls, outside_calls}
 use Rattle.awk_kinds.specs.Kinds.{FormalParameter}
+use Rattle.awk_storage.specs.declared.entry.Caller.{Caller}
+use Rattle.awk_storage.specs.declared.entry.Entry.{Entry}
 use Rattle.awk_storage.specs.support.Frames.{FrameView, FramesView, heights_of, older_of, arrays_before_of}
 use Rattle.awk_runtime.specs.declared.runtime.Runtime.{Runtime}
-use Rattle.awk_runtime.specs.support.Simulation.{frame_view, OwnRelation, Changes}
-use Rattle.awk_runtime.specs.support.Calling.{with_given, without_given, Refused, missing_locals, missing_arrays, with_missing, completed, EntersCall, EndsCalls}
-use Rattle.awk_runtime.proofs.Composition.{OwnPart, own_changes, same_part, memory_changes}
+use Rattle.awk_runtime.specs.support.Simulation.{frame_view, OwnRelation, Changes, ChangesCalls}
+use Rattle.awk_runtime.specs.support.Calling.{with_given, without_given, Refused, missing_locals, missing_arrays, with_missing, completed, EntersCall, LeavesCall, EndsCalls}
+use Rattle.awk_runtime.proofs.Composition.{OwnPart, own_changes, own_calls, same_part, memory_calls}
 
 -- the height of the bodies
 
@@ -25,11 +28,11 @@ heights_are [] = refl
 heights_are (frame ∷ frames) = ap (λ n. frame.height + n) (heights_are frames)
 
 height_holds : {m : Runtime} {s : State} → OwnRelation m s → height_in s.frames ≡ heights_of m.frames.frames
-height_holds {s = s} h = sym (heights_are s.frames) ∙ ap heights_of (ap (λ f. f.frames) (sym h.frames))
+height_holds {s = s} h = sym (heights_are s.frames) ∙ ap heights_of (sym h.frames)
 
 pub height_low : (m : Runtime) (height : ℕ) → heights_of m.frames.frames + height ≤ most_height → Changes (check_height height) m m (Ok tt)
 unfolding check_height
-height_low m height low = own_changes (check_height height) refl refl (omega arith) (λ s h.
+height_low m height low = own_changes (check_height height) refl refl refl (omega arith) (λ s h.
     let sum = height_holds h in
     let test : nat_lt most_height (height_in s.frames + height) ≡ false = grind (arith, nat_tests, sum) in
     record {
@@ -43,7 +46,7 @@ height_low m height low = own_changes (check_height height) refl refl (omega ari
 
 pub height_high : (m : Runtime) (height : ℕ) → most_height < heights_of m.frames.frames + height → Changes (check_height height) m m (Err (halt.Fault CallsTooDeep))
 unfolding check_height
-height_high m height high = own_changes (check_height height) refl refl (omega arith) (λ s h.
+height_high m height high = own_changes (check_height height) refl refl refl (omega arith) (λ s h.
     let sum = height_holds h in
     let test : nat_lt most_height (height_in s.frames + height) ≡ true = grind (arith, nat_tests, sum) in
     record {
@@ -58,7 +61,7 @@ height_high m height high = own_changes (check_height height) refl refl (omega a
 -- the newest call is over
 
 abbrev pub left_by : Runtime → ℕ → Runtime
-left_by m count = record m { arrays = take count m.arrays; frames = record { frames = older_of m.frames.frames; staged = [] } }
+left_by m count = record m { arrays = take count m.arrays; frames = record { frames = older_of m.frames.frames; staged = []; callers = drop 1 m.frames.callers } }
 
 -- the call that is over, and the older ones
 pub record Left (m : Runtime) (count : ℕ) (s : State) : Type 0 where
@@ -72,10 +75,10 @@ newest m count s some h = by s.frames refl
   where
     by : (frames : List Frame) → s.frames ≡ frames → Left m count s
     by [] e =
-        let none : arrays_before_of m.frames.frames ≡ None = ap (λ f. arrays_before_of f.frames) h.frames ∙ ap (λ fs. arrays_before_of (map frame_view fs)) e in
+        let none : arrays_before_of m.frames.frames ≡ None = ap arrays_before_of h.frames ∙ ap (λ fs. arrays_before_of (map frame_view fs)) e in
         absurd (cc)
     by (frame ∷ frames) e =
-        let some' : arrays_before_of m.frames.frames ≡ Some frame.arrays_before = ap (λ f. arrays_before_of f.frames) h.frames ∙ ap (λ fs. arrays_before_of (map frame_view fs)) e in
+        let some' : arrays_before_of m.frames.frames ≡ Some frame.arrays_before = ap arrays_before_of h.frames ∙ ap (λ fs. arrays_before_of (map frame_view fs)) e in
         record { frame = frame; frames = frames; is = e; before = (cc) }
 
 pub left_holds : (m : Runtime) (count : ℕ) (s : State) → (left : Left m count s) → OwnRelation m s → OwnRelation (left_by m count) (without_call s.frames s)
@@ -87,7 +90,8 @@ left_holds m count s left h = subst (λ (fs : List Frame). OwnRelation (left_by 
   array_names = h.array_names;
   function_names = h.function_names;
   arrays = ap (λ n. take n s.arrays) left.before ∙ ap (take count) h.arrays;
-  frames = ap (λ f. record { frames = older_of f.frames; staged = [] }) h.frames ∙ ap (λ fs. record { frames = older_of (map frame_view fs); staged = [] }) left.is;
+  frames = ap older_of h.frames ∙ ap (λ fs. older_of (map frame_view fs)) left.is;
+  staged = refl;
   next = h.next;
   input_seen = h.input_seen;
   inside = h.inside;
@@ -99,9 +103,9 @@ own_left : (frames : List Frame) (s : State) → OwnPart s (without_call frames 
 own_left [] s = same_part s
 own_left (frame ∷ frames) s = record { outside = refl; openings = refl; output_openings = refl; closings = refl; runs = refl; outputs = refl; main = refl; streams = refl }
 
-pub call_left : (m : Runtime) (count : ℕ) → arrays_before_of m.frames.frames ≡ Some count → Changes leave m (left_by m count) (Ok tt)
+pub call_left : (m : Runtime) (count : ℕ) → arrays_before_of m.frames.frames ≡ Some count → ChangesCalls leave m (left_by m count) (Ok tt)
 unfolding leave
-call_left m count some = own_changes leave refl refl (omega arith) (λ s h. record {
+call_left m count some = own_calls leave refl refl (omega arith) (λ s h. record {
   result = Ok tt;
   state = without_call s.frames s;
   is = refl;
@@ -116,19 +120,27 @@ none_active m s none h = by s.frames refl
     by : (frames : List Frame) → s.frames ≡ frames → s.frames ≡ []
     by [] e = e
     by (frame ∷ frames) e =
-        let some : arrays_before_of m.frames.frames ≡ Some frame.arrays_before = ap (λ f. arrays_before_of f.frames) h.frames ∙ ap (λ fs. arrays_before_of (map frame_view fs)) e in
+        let some : arrays_before_of m.frames.frames ≡ Some frame.arrays_before = ap arrays_before_of h.frames ∙ ap (λ fs. arrays_before_of (map frame_view fs)) e in
         absurd (cc)
 
-pub none_left : (m : Runtime) → arrays_before_of m.frames.frames ≡ None → Changes leave m m (Ok tt)
-unfolding leave
-none_left m none = own_changes leave refl refl (omega arith) (λ s h. record {
-  result = Ok tt;
-  state = s;
-  is = ap (λ fs. record { result = Ok tt; state = without_call fs s; effects = [] }) (none_active m s none h);
-  part = same_part s;
-  matches = refl;
-  holds = h;
-})
+first_is : (caller : Caller) (callers : List Caller) → Some caller ≡ slice_get callers 0 → callers ≡ caller ∷ drop 1 callers
+first_is caller [] is = absurd (cc)
+first_is caller (c ∷ more) is = let same : c ≡ caller = cc in ap (λ x. x ∷ more) same
+
+pub none_is : (callers : List Caller) → None ≡ slice_get callers 0 → callers ≡ []
+none_is [] is = refl
+none_is (c ∷ more) is = absurd (cc)
+
+-- what became of the newest call, by what was kept of it
+pub leaves : (kept : Option Entry) {old new : Runtime} → option_map (λ (e : Entry). e.arrays_before) kept ≡ arrays_before_of old.frames.frames → option_map (λ (e : Entry). e.caller) kept ≡ slice_get old.frames.callers 0
+    → IfSome kept (λ e. new ≡ left_by old e.arrays_before) → IfNone kept (new ≡ old) → LeavesCall old (option_map (λ (e : Entry). e.caller) kept) new
+leaves (Some e) {old = old} arrays caller left none = record {
+  leaves = (
+    first_is e.caller old.frames.callers caller ∙ ap (λ (m : Runtime). e.caller ∷ m.frames.callers) (sym left),
+    subst (λ (m : Runtime). ChangesCalls leave old m (Ok tt)) (sym left) (call_left old e.arrays_before (sym arrays)),
+  );
+}
+leaves None {old = old} arrays caller left none = record { leaves = (none_is old.frames.callers caller, none) }
 
 -- calls are over, one after the other
 
@@ -157,12 +169,13 @@ ending_goes_on old now count some e = record {
       (without_call t.0.frames t.0, left_holds now count t.0 left t.1, outside_left now count t.0 left ∙ t.2);
 }
 
-pub ending_ends : (old now : Runtime) → arrays_before_of now.frames.frames ≡ None → Ending old now → EndsCalls old now
-ending_ends old now none e = record {
+pub ending_ends : (old now : Runtime) → arrays_before_of now.frames.frames ≡ None → now.frames.callers ≡ [] → Ending old now → EndsCalls old now
+ending_ends old now none no_callers e = record {
   steps = e.steps;
   names = e.names;
   streams = e.streams;
   status = e.status;
+  callers = no_callers;
   holds = λ s h.
       let t = e.holds s h in
       let out : t.0 ≡ outside_calls s = ap (λ fs. without_calls fs t.0) (sym (none_active now t.0 none t.1)) ∙ t.2 in
@@ -193,8 +206,8 @@ missing_more m ks k =
     let staged : (m.frames.staged ++ missing_locals ks (length m.arrays)) ++ missing_locals (k ∷ []) (length (m.arrays ++ missing_arrays ks)) ≡ m.frames.staged ++ missing_locals (ks ++ k ∷ []) (length m.arrays) =
     append_assoc m.frames.staged (missing_locals ks (length m.arrays)) (missing_locals (k ∷ []) (length (m.arrays ++ missing_arrays ks)))
     ∙ ap (λ l. m.frames.staged ++ l) (ap (λ n. missing_locals ks (length m.arrays) ++ missing_locals (k ∷ []) n) (length-append m.arrays (missing_arrays ks)) ∙ sym (missing_then ks (length m.arrays) k)) in
-    ap (λ l. record m { arrays = l; frames = record { frames = m.frames.frames; staged = (m.frames.staged ++ missing_locals ks (length m.arrays)) ++ missing_locals (k ∷ []) (length (m.arrays ++ missing_arrays ks)) } }) arrays
-    ∙ ap (λ l. record m { arrays = m.arrays ++ missing_arrays (ks ++ k ∷ []); frames = record { frames = m.frames.frames; staged = l } }) staged
+    ap (λ l. record m { arrays = l; frames = record m.frames { staged = (m.frames.staged ++ missing_locals ks (length m.arrays)) ++ missing_locals (k ∷ []) (length (m.arrays ++ missing_arrays ks)) } }) arrays
+    ∙ ap (λ l. record m { arrays = m.arrays ++ missing_arrays (ks ++ k ∷ []); frames = record m.frames { staged = l } }) staged
 
 -- one more of these parameters has what it has for want of an argument
 pub missing_next : (m now next : Runtime) (ks : List Bool) (i : ℕ) (k : Bool) → i < length ks → get_or ks i false ≡ k → now ≡ with_missing (take i ks) m → next ≡ with_missing (k ∷ []) now → next ≡ with_missing (take (i + 1) ks) m
@@ -202,7 +215,7 @@ missing_next m now next ks i k low is before one =
     one ∙ (ap (with_missing (k ∷ [])) before ∙ (missing_more m (take i ks) k ∙ ap (λ l. with_missing l m) (ap (λ b. take i ks ++ b ∷ []) (sym is) ∙ sym (take_more ks i false low))))
 
 pub missing_value : (now : Runtime) → with_given (local.Value value.Nothing) now ≡ with_missing (false ∷ []) now
-missing_value now = ap (λ l. record now { arrays = l; frames = record { frames = now.frames.frames; staged = now.frames.staged ++ local.Value value.Nothing ∷ [] } }) (sym (append-nil now.arrays))
+missing_value now = ap (λ l. record now { arrays = l; frames = record now.frames { staged = now.frames.staged ++ local.Value value.Nothing ∷ [] } }) (sym (append-nil now.arrays))
 
 -- a call is active
 
@@ -235,13 +248,14 @@ made_arrays (p ∷ ps) [] = made_missing (p ∷ ps)
 made_arrays (p ∷ ps) (a ∷ given) = made_arrays ps given
 
 -- a call with what was completed is active
-abbrev pub entered_by : Runtime → (height arrays_before : ℕ) → Runtime
-entered_by m height before = record m { frames = record { frames = record { locals = m.frames.staged; height = height; arrays_before = before } ∷ m.frames.frames; staged = [] } }
+abbrev pub entered_by : Runtime → (height arrays_before : ℕ) → Caller → Runtime
+entered_by m height before caller = record m { frames = record { frames = record { locals = m.frames.staged; height = height; arrays_before = before } ∷ m.frames.frames; staged = []; callers = caller ∷ m.frames.callers } }
 
-pub call_entered : (m : Runtime) (kinds : List Bool) (height : ℕ) → EntersCall kinds height m (entered_by (completed kinds m) height (length m.arrays)) (Ok tt)
+pub call_entered : (m : Runtime) (kinds : List Bool) (height : ℕ) (caller : Caller) → EntersCall kinds height caller m (entered_by (completed kinds m) height (length m.arrays) caller) (Ok tt)
 unfolding enter
-call_entered m kinds height = record {
-  enters = λ parameters are. own_changes (enter parameters height m.frames.staged) refl refl (omega arith) (λ s h.
+call_entered m kinds height caller = record {
+  callers = refl;
+  enters = λ parameters are. own_calls (enter parameters height m.frames.staged) refl refl (omega arith) (λ s h.
       let n : length s.arrays ≡ length m.arrays = ap length h.arrays in
       let given = m.frames.staged in
       let locals : map (λ (l : List ℕ × Local). l.1) (bound parameters given (length s.arrays)) ≡ take (length kinds) given ++ missing_locals (drop (length given) kinds) (length m.arrays) =
@@ -265,9 +279,10 @@ call_entered m kinds height = record {
           array_names = h.array_names;
           function_names = h.function_names;
           arrays = ap (λ l. l ++ made parameters given) h.arrays ∙ ap (λ l. m.arrays ++ l) (made_arrays parameters given ∙ ap (λ ks. missing_arrays (drop (length given) ks)) are);
-          frames = ap (λ l. record { frames = record { locals = l; height = height; arrays_before = length m.arrays } ∷ m.frames.frames; staged = [] }) (sym locals)
-              ∙ (ap (λ k. record { frames = record { locals = map (λ (l : List ℕ × Local). l.1) (bound parameters given (length s.arrays)); height = height; arrays_before = k } ∷ m.frames.frames; staged = [] }) (sym n)
-              ∙ ap (λ fs. record { frames = record { locals = map (λ (l : List ℕ × Local). l.1) (bound parameters given (length s.arrays)); height = height; arrays_before = length s.arrays } ∷ fs; staged = [] }) (ap (λ f. f.frames) h.frames));
+          frames = ap (λ l. record { locals = l; height = height; arrays_before = length m.arrays } ∷ m.frames.frames) (sym locals)
+              ∙ (ap (λ k. record { locals = map (λ (l : List ℕ × Local). l.1) (bound parameters given (length s.arrays)); height = height; arrays_before = k } ∷ m.frames.frames) (sym n)
+              ∙ ap (λ fs. record { locals = map (λ (l : List ℕ × Local). l.1) (bound parameters given (length s.arrays)); height = height; arrays_before = length s.arrays } ∷ fs) h.frames);
+          staged = refl;
           next = h.next;
           input_seen = h.input_seen;
           inside = h.inside;
@@ -277,21 +292,21 @@ call_entered m kinds height = record {
       });
 }
 
-pub call_refused : (kinds : List Bool) (height : ℕ) {m new : Runtime} → Refused m new → EntersCall kinds height m new (Err (halt.Fault OutOfMemory))
-call_refused kinds height refused = record { enters = λ parameters are. memory_changes (enter parameters height _) refused.streams refused.names (omega (arith, refused.steps)) }
+pub call_refused : (kinds : List Bool) (height : ℕ) (caller : Caller) {m new : Runtime} → Refused m new → EntersCall kinds height caller m new (Err (halt.Fault OutOfMemory))
+call_refused kinds height caller refused = record { callers = tt; enters = λ parameters are. memory_calls (enter parameters height _) refused.streams refused.names (omega (arith, refused.steps)) }
 
-module _ (m mid : Runtime) (kinds : List Bool) (height : ℕ) (is : mid ≡ completed kinds m) where
-  pub entered_behind : (before : ℕ) {calls : FramesView} → before ≡ length m.arrays → calls ≡ record { frames = record { locals = mid.frames.staged; height = height; arrays_before = before } ∷ mid.frames.frames; staged = [] }
-      → EntersCall kinds height m (record mid { frames = calls }) (Ok tt)
-  entered_behind before number calls_are = subst (λ (x : Runtime). EntersCall kinds height m x (Ok tt))
-      (ap (λ x. entered_by x height (length m.arrays)) (sym is) ∙ (ap (λ k. entered_by mid height k) (sym number) ∙ ap (λ c. record mid { frames = c }) (sym calls_are)))
-      (call_entered m kinds height)
+module _ (m mid : Runtime) (kinds : List Bool) (height : ℕ) (caller : Caller) (is : mid ≡ completed kinds m) where
+  pub entered_behind : (before : ℕ) {calls : FramesView} → before ≡ length m.arrays → calls ≡ record { frames = record { locals = mid.frames.staged; height = height; arrays_before = before } ∷ mid.frames.frames; staged = []; callers = caller ∷ mid.frames.callers }
+      → EntersCall kinds height caller m (record mid { frames = calls }) (Ok tt)
+  entered_behind before number calls_are = subst (λ (x : Runtime). EntersCall kinds height caller m x (Ok tt))
+      (ap (λ x. entered_by x height (length m.arrays) caller) (sym is) ∙ (ap (λ k. entered_by mid height k caller) (sym number) ∙ ap (λ c. record mid { frames = c }) (sym calls_are)))
+      (call_entered m kinds height caller)
 
-  pub refused_behind : {calls : FramesView} → EntersCall kinds height m (record mid { frames = calls }) (Err (halt.Fault OutOfMemory))
-  refused_behind = call_refused kinds height record { steps = ap (λ x. x.steps) is; names = ap (λ x. x.names) is; streams = ap (λ x. x.streams) is }
+  pub refused_behind : {calls : FramesView} → EntersCall kinds height caller m (record mid { frames = calls }) (Err (halt.Fault OutOfMemory))
+  refused_behind = call_refused kinds height caller record { steps = ap (λ x. x.steps) is; names = ap (λ x. x.names) is; streams = ap (λ x. x.streams) is }
 
 -- what was given, where there is nothing: the state is the one without it
-pub given_nothing : {A : Type 0} {m new : Runtime} {r : Result A Halt} (run : Run A) → Changes run (without_given m) new r → Changes run m new r
+pub given_nothing : {A : Type 0} {m new : Runtime} {r : Result A Halt} (run : Run A) → ChangesCalls run (without_given m) new r → ChangesCalls run m new r
 given_nothing {m = m} {new = new} {r = r} run d = record {
   steps = d.steps;
   names = d.names;
@@ -311,7 +326,8 @@ given_nothing {m = m} {new = new} {r = r} run d = record {
       array_names = h.array_names;
       function_names = h.function_names;
       arrays = h.arrays;
-      frames = ap (λ f. record { frames = f.frames; staged = [] }) h.frames;
+      frames = h.frames;
+      staged = refl;
       next = h.next;
       input_seen = h.input_seen;
       inside = h.inside;

@@ -20,7 +20,7 @@ use Rattle.awk_semantics.specs.Streams.{has_the_name, without_stream, closed_by,
 use Rattle.awk_semantics.specs.Order.{ClosesAs, first_stage}
 use Rattle.awk_runtime.specs.declared.runtime.Runtime.{Runtime}
 use Rattle.awk_runtime.specs.support.Simulation.{main_number, stage_of, StreamsRelation, StateRelation, ResultRelation, SimulatesLogged, Follows, Beside, halted}
-use Rattle.awk_runtime.proofs.Composition.{then_logged}
+use Rattle.awk_runtime.proofs.Composition.{then_logged, callers_stay}
 use Rattle.awk_runtime.proofs.Effects.{turn_requested}
 use Rattle.awk_runtime.proofs.Flushes.{all_brought, brought_stands}
 use Rattle.awk_runtime.proofs.Steps.{beside_holds}
@@ -70,6 +70,7 @@ pub run_follows : {is_logged : Type 0} (command text : List ℕ) (r : Result ℤ
 run_follows {is_logged = is_logged} command text r {old = old} {new = new} {before = before} {after = after} named beside told =
     subst (λ (l : List ℕ). Follows is_logged (run_command l) old before new after (halted r)) named (record {
       simulates = record { steps = omega (arith, beside.steps); names = beside.names; told = λ t. ran_logged text r beside (told t) };
+      callers = callers_stay beside.frames;
     })
 
 -- a stream is closed
@@ -187,4 +188,5 @@ pub close_follows : {is_logged : Type 0} (name text : List ℕ) (r : Result ℤ 
 close_follows {is_logged = is_logged} name text r {old = old} {new = new} {before = before} {after = after} named beside told =
     subst (λ (l : List ℕ). Follows is_logged (close_named l) old before new after (halted r)) named (record {
       simulates = record { steps = omega (arith, beside.steps); names = beside.names; told = λ t. text_closed text r beside (told t) };
+      callers = callers_stay beside.frames;
     })

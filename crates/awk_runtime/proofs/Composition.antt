@@ -11,6 +11,7 @@ use Rattle.awk_streams.specs.Openings.{Opening}
 use Rattle.awk_streams.specs.Streams.{StreamsView, AreAs, held_of, printed_openings}
 use Rattle.awk_streams.specs.Lost.{AreSpent, KeepsOthers}
 use Rattle.awk_streams.proofs.GrowsLemmas.{Grows-self, Grows-then}
+use Rattle.awk_streams.proofs.LostLemmas.{spent_inside}
 use Rattle.awk_semantics.specs.declared.halt.Halt.{Halt}
 use Rattle.awk_semantics.specs.declared.halt.Halt.TheVariants as halt
 use Rattle.awk_semantics.specs.declared.fault.Fault.TheVariants.{OutOfMemory}
@@ -18,8 +19,9 @@ use Rattle.awk_semantics.specs.State.{Effect, State, Out, Run, go_on, ◌>>=◌,
 use Rattle.awk_semantics.specs.Meaning.{first_outputs, outputs_after, requests_from}
 use Rattle.awk_semantics.specs.Order.{Stage, MeetsAll, first_stage}
 use Rattle.awk_semantics.specs.Results.{Sort, WantOfMemory, FailedWrite, OfLanguage, sort_of, YieldsBy, Yields}
+use Rattle.awk_storage.specs.support.Frames.{FramesView}
 use Rattle.awk_runtime.specs.declared.runtime.Runtime.{Runtime}
-use Rattle.awk_runtime.specs.support.Simulation.{stage_of, OwnRelation, StreamsRelation, StateRelation, IsReady, FailureRelation, FailedLast, ResultRelationBy, ResultRelation, SimulatesLogged, Simulates, Changes}
+use Rattle.awk_runtime.specs.support.Simulation.{stage_of, OwnRelation, StreamsRelation, StateRelation, IsReady, FailureRelation, FailedLast, ResultRelationBy, ResultRelation, SimulatesLogged, Simulates, Changes, ChangesCalls}
 use Rattle.awk_runtime.proofs.Effects.{begins-longer, begins_still}
 
 -- a failure of a world that had met none before
@@ -42,17 +44,11 @@ none_failed : (held : List (ℕ × List ℕ)) → AreSpent [] held
 none_failed [] = tt
 none_failed (h ∷ held) = (λ (failed : false ≡ true). absurd (cc), none_failed held)
 
-none_failed_inside : (at : ℕ) (held : List (ℕ × List ℕ)) → AreSpent (record { at = at; output = None; what = Memory } ∷ []) held
-none_failed_inside at [] = tt
-none_failed_inside at (h ∷ held) = (λ (failed : false ≡ true). absurd (cc), none_failed_inside at held)
-
 pub clear_spent : (k : WorldState) (held : List (ℕ × List ℕ)) → k.failures ≡ [] → AreSpent k.failures held
 clear_spent k held clear = subst (λ (fs : List Failure). AreSpent fs held) (sym clear) (none_failed held)
 
 pub inside_spent : (before after : WorldState) (held : List (ℕ × List ℕ)) → before.failures ≡ [] → MayFailInside before after → AreSpent after.failures held
-inside_spent before after held clear (inl same) = clear_spent after held (same ∙ clear)
-inside_spent before after held clear (inr fails) =
-    subst (λ (fs : List Failure). AreSpent fs held) (sym (fails ∙ ap (λ (fs : List Failure). record { at = length after.log; output = None; what = Memory } ∷ fs) clear)) (none_failed_inside (length after.log) held)
+inside_spent before after held clear inside = spent_inside before after held inside (clear_spent before held clear)
 
 -- all that is printed is received or held back
 pub keeps_all : (k : WorldState) (streams : StreamsView) (done : List Effect) → printed_openings k streams ≡ outputs_after done → AreSpent k.failures (held_of streams) → KeepsOthers (outputs_after done) k (held_of streams)
@@ -212,17 +208,19 @@ then_changes f x y = record {
   steps = omega (arith, x.steps, y.steps);
   names = y.names ∙ x.names;
   streams = y.streams ∙ x.streams;
+  callers = y.callers ∙ x.callers;
   means = λ k. then_logged f (x.means k) (y.means k);
 }
 
 pub ends_changes : {A B : Type 0} {old new : Runtime} {h : Halt} {run : Run A} (f : A → Run B) → Changes run old new (Err h) → Changes (run >>= f) old new (Err h)
-ends_changes f x = record { steps = x.steps; names = x.names; streams = x.streams; means = λ k. ends_logged f (x.means k) }
+ends_changes f x = record { steps = x.steps; names = x.names; streams = x.streams; callers = x.callers; means = λ k. ends_logged f (x.means k) }
 
 pub lift_changes : {A : Type 0} {c : Result A Halt} (r : Result A Halt) (m : Runtime) → Yields c r → Changes (lift r) m m c
-lift_changes r m e = record { steps = omega arith; names = refl; streams = refl; means = λ k. lift_logged r m k e }
+lift_changes r m e = record { steps = omega arith; names = refl; streams = refl; callers = refl; means = λ k. lift_logged r m k e }
 
-pub memory_changes : {A : Type 0} (run : Run A) {old new : Runtime} → new.streams ≡ old.streams → new.names ≡ old.names → new.steps ≤ old.steps → Changes run old new (Err (halt.Fault OutOfMemory))
-memory_changes run {old = old} {new = new} same names low = record {
+pub memory_changes : {A : Type 0} (run : Run A) {old new : Runtime} → new.streams ≡ old.streams → new.names ≡ old.names → new.frames.callers ≡ old.frames.callers → new.steps ≤ old.steps → Changes run old new (Err (halt.Fault OutOfMemory))
+memory_changes run {old = old} {new = new} same names callers low = record {
+  callers = callers;
   steps = low;
   names = names;
   streams = same;
@@ -265,8 +263,8 @@ pub record Own {A : Type 0} (old new : Runtime) (c : Result A Halt) (run : Run A
   pub matches : Yields c result
   pub holds : OwnRelation new state
 
-pub own_changes : {A : Type 0} {c : Result A Halt} {old new : Runtime} (run : Run A) → new.streams ≡ old.streams → new.names ≡ old.names → new.steps ≤ old.steps → ((s : State) → OwnRelation old s → Own old new c run s) → Changes run old new c
-own_changes {c = c} {old = old} {new = new} run same names low own = record {
+pub own_calls : {A : Type 0} {c : Result A Halt} {old new : Runtime} (run : Run A) → new.streams ≡ old.streams → new.names ≡ old.names → new.steps ≤ old.steps → ((s : State) → OwnRelation old s → Own old new c run s) → ChangesCalls run old new c
+own_calls {c = c} {old = old} {new = new} run same names low own = record {
   steps = low;
   names = names;
   streams = same;
@@ -277,6 +275,44 @@ own_changes {c = c} {old = old} {new = new} run same names low own = record {
         subst (λ (x : Out _). ResultRelation oracle new k c x past) (sym o.is) (own_comes oracle new k c o.result o.state past o.matches (stands_own same o.part o.holds stands));
   };
 }
+
+pub own_changes : {A : Type 0} {c : Result A Halt} {old new : Runtime} (run : Run A) → new.streams ≡ old.streams → new.names ≡ old.names → new.frames.callers ≡ old.frames.callers → new.steps ≤ old.steps → ((s : State) → OwnRelation old s → Own old new c run s) → Changes run old new c
+own_changes run same names callers low own = let d = own_calls run same names low own in record { steps = d.steps; names = d.names; streams = d.streams; callers = callers; means = d.means }
+
+-- calls that begin or are over
+
+pub as_calls : {A : Type 0} {old new : Runtime} {r : Result A Halt} {run : Run A} → Changes run old new r → ChangesCalls run old new r
+as_calls x = record { steps = x.steps; names = x.names; streams = x.streams; means = x.means }
+
+pub then_calls : {A B : Type 0} {old mid new : Runtime} {a : A} {r : Result B Halt} {run : Run A} (f : A → Run B) → Changes run old mid (Ok a) → ChangesCalls (f a) mid new r → ChangesCalls (run >>= f) old new r
+then_calls f x y = record {
+  steps = omega (arith, x.steps, y.steps);
+  names = y.names ∙ x.names;
+  streams = y.streams ∙ x.streams;
+  means = λ k. then_logged f (x.means k) (y.means k);
+}
+
+pub memory_calls : {A : Type 0} (run : Run A) {old new : Runtime} → new.streams ≡ old.streams → new.names ≡ old.names → new.steps ≤ old.steps → ChangesCalls run old new (Err (halt.Fault OutOfMemory))
+memory_calls run {old = old} {new = new} same names low = record {
+  steps = low;
+  names = names;
+  streams = same;
+  means = λ k. record { grows = Grows-self k; means = λ oracle s past consistent stands. unfailed oracle old new k s past (run s).effects same stands (λ none. inl none) };
+}
+
+pub calls_simulate : {A : Type 0} {is_logged : Type 0} {old new : Runtime} {k : WorldState} {r : Result A Halt} {run : Run A} → ChangesCalls run old new r → Simulates is_logged old k new k r run
+calls_simulate {k = k} h = record { steps = h.steps; names = h.names; told = λ t. h.means k }
+
+-- what stays of calls that stay
+
+pub frames_stay : {old new : FramesView} → new ≡ old → new.frames ≡ old.frames
+frames_stay e = ap (λ (v : FramesView). v.frames) e
+
+pub staged_stay : {old new : FramesView} → new ≡ old → new.staged ≡ old.staged
+staged_stay e = ap (λ (v : FramesView). v.staged) e
+
+pub callers_stay : {old new : FramesView} → new ≡ old → new.callers ≡ old.callers
+callers_stay e = ap (λ (v : FramesView). v.callers) e
 
 pub same_part : (s : State) → OwnPart s s
 same_part s = record { outside = refl; openings = refl; output_openings = refl; closings = refl; runs = refl; outputs = refl; main = refl; streams = refl }

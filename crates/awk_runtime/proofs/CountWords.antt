@@ -11,7 +11,7 @@ use Rattle.awk_semantics.specs.Primitives.{put_special, count_in, with_variable}
 use Rattle.awk_runtime.specs.declared.runtime.Runtime.{Runtime}
 use Rattle.awk_runtime.specs.support.Simulation.{Changes}
 use Rattle.awk_runtime.specs.support.Naming.{AreOwn}
-use Rattle.awk_runtime.proofs.Composition.{own_changes}
+use Rattle.awk_runtime.proofs.Composition.{own_changes, callers_stay}
 use Rattle.awk_runtime.proofs.VariableWords.{SameButVariables, special_values_twice, variables_hold}
 
 -- a count is raised in a state
@@ -28,7 +28,7 @@ raised_both s n m nr fnr fits fits' =
 
 pub counted_both : {old new : Runtime} → AreOwn old.names.scalars → CountsRecords 1 (value_of old.specials) (value_of new.specials) → new.globals ≡ old.globals → SameButVariables old new → Changes (count_in Nr >>= λ _. count_in Fnr) old new (Ok tt)
 counted_both {old = old} {new = new} own c globals same =
-    own_changes _ same.streams same.names (omega (arith, same.steps)) (λ s h. record {
+    own_changes _ same.streams same.names (callers_stay same.frames) (omega (arith, same.steps)) (λ s h. record {
       result = Ok tt;
       state = with_variable (name_of Fnr) (value.Number (c.in_file +ℤ pos 1)) (with_variable (name_of Nr) (value.Number (c.all +ℤ pos 1)) s);
       is = raised_both s c.all c.in_file (h.specials Nr ∙ c.nr) (h.specials Fnr ∙ c.fnr) (c.nr_counts 1 (omega arith)) (c.fnr_counts 1 (omega arith));

@@ -19,7 +19,7 @@ use Rattle.awk_semantics.specs.Streams.{note_input, begin_input}
 use Rattle.awk_runtime.specs.declared.runtime.Runtime.{Runtime}
 use Rattle.awk_runtime.specs.support.Simulation.{inside_of, OwnRelation, Changes, SameState}
 use Rattle.awk_runtime.specs.support.Naming.{Naming}
-use Rattle.awk_runtime.proofs.Composition.{own_changes, then_changes, ends_changes}
+use Rattle.awk_runtime.proofs.Composition.{own_changes, then_changes, ends_changes, frames_stay, staged_stay, callers_stay}
 use Rattle.awk_runtime.proofs.Steps.{reads_changes}
 use Rattle.awk_runtime.proofs.Words.{number_had, number_lacked}
 
@@ -48,7 +48,8 @@ end_holds {old = old} {new = new} s inside status input_seen same e f g h = reco
   array_names = h.array_names ∙ ap (λ (n : Naming). n.arrays) (sym same.names);
   function_names = h.function_names ∙ ap (λ (n : Naming). n.functions) (sym same.names);
   arrays = h.arrays ∙ sym same.arrays;
-  frames = same.frames ∙ h.frames;
+  frames = frames_stay same.frames ∙ h.frames;
+  staged = staged_stay same.frames ∙ h.staged;
   next = h.next ∙ sym same.next;
   input_seen = g;
   inside = e;
@@ -62,7 +63,7 @@ same_inside old new inside n = ap (λ (v : Vec Bool). unwrap_or (slice_get v.ite
 pub range_set : (n : ℕ) (b : Bool) {old new : Runtime} → SameButEnd old new → new.status ≡ old.status → new.input_seen ≡ old.input_seen → ((m : ℕ) → inside_of new m ≡ (if m == n then b else inside_of old m)) → Changes (set_inside n b) old new (Ok tt)
 unfolding set_inside
 range_set n b {old = old} {new = new} same status input_seen e =
-    own_changes _ same.streams same.names (omega (arith, same.steps)) (λ s h. record {
+    own_changes _ same.streams same.names (callers_stay same.frames) (omega (arith, same.steps)) (λ s h. record {
       result = Ok tt;
       state = record s { inside = with_range n b s.inside };
       is = refl;
@@ -73,7 +74,7 @@ range_set n b {old = old} {new = new} same status input_seen e =
 
 status_becomes : (n : ℤ) {old new : Runtime} → SameButEnd old new → new.inside ≡ old.inside → new.input_seen ≡ old.input_seen → new.status ≡ exit_status n → Changes (with_status n) old new (Ok tt)
 status_becomes n {old = old} {new = new} same inside input_seen e =
-    own_changes _ same.streams same.names (omega (arith, same.steps)) (λ s h. record {
+    own_changes _ same.streams same.names (callers_stay same.frames) (omega (arith, same.steps)) (λ s h. record {
       result = Ok tt;
       state = record s { status = exit_status n };
       is = refl;
@@ -93,7 +94,7 @@ status_fails v fault m is = ends_changes _ (number_lacked v fault m is)
 pub input_noted : {old new : Runtime} → SameButEnd old new → new.inside ≡ old.inside → new.status ≡ old.status → new.input_seen ≡ true → Changes note_input old new (Ok tt)
 unfolding note_input
 input_noted {old = old} {new = new} same inside status e =
-    own_changes _ same.streams same.names (omega (arith, same.steps)) (λ s h. record {
+    own_changes _ same.streams same.names (callers_stay same.frames) (omega (arith, same.steps)) (λ s h. record {
       result = Ok tt;
       state = record s { input_seen = true };
       is = refl;

@@ -27,6 +27,7 @@ use Rattle.awk_runtime.specs.declared.runtime.Runtime.{Runtime}
 use Rattle.awk_runtime.specs.support.Simulation.{main_number, stage_of, StreamsRelation, SimulatesLogged, Follows, Beside, halted}
 use Rattle.awk_runtime.proofs.Effects.{turn_between}
 use Rattle.awk_runtime.proofs.Steps.{beside_holds}
+use Rattle.awk_runtime.proofs.Composition.{callers_stay}
 use Rattle.awk_runtime.proofs.Turns.{outputs_requested, goes_bringing, turn_brought, brought_as, memory_loses, write_loses}
 
 -- outputs are brought, and the streams stand for the same
@@ -102,7 +103,7 @@ all_flushed (Err TooManyStreams) beside told = absurd told.flushed
 all_flushed (Err RecordTooLong) beside told = absurd told.flushed
 
 pub all_follows : {is_logged : Type 0} (r : Result (Unit {0}) StreamFault) {old new : Runtime} {before after : WorldState} → Beside old new → (is_logged → FlushesAll before old.streams r after new.streams) → Follows is_logged flush_all old before new after (halted r)
-all_follows r beside told = record { simulates = record { steps = omega (arith, beside.steps); names = beside.names; told = λ t. all_flushed r beside (told t) } }
+all_follows r beside told = record { simulates = record { steps = omega (arith, beside.steps); names = beside.names; told = λ t. all_flushed r beside (told t) }; callers = callers_stay beside.frames }
 
 -- the outputs of a name are flushed
 
@@ -176,10 +177,12 @@ flush_follows {is_logged = is_logged} name text is_open open_so {old = old} {new
     subst (λ (b : Bool). Follows is_logged (flush_named name) old before new after (Ok (flush_answer b))) is
     (subst (λ (l : List ℕ). Follows is_logged (flush_named l) old before new after (Ok (flush_answer is_open))) named (record {
       simulates = record { steps = omega (arith, beside.steps); names = beside.names; told = λ t. text_flushed text is_open beside (told t) };
+      callers = callers_stay beside.frames;
     }))
 
 pub flush_fails : {is_logged : Type 0} (name text : List ℕ) (fault : StreamFault) {old new : Runtime} {before after : WorldState} → text ≡ name → Beside old new → (is_logged → FlushesText text before old.streams (Err fault) after new.streams) → Follows is_logged (flush_named name) old before new after (Err (halt.Fault (stream_fault fault)))
 flush_fails {is_logged = is_logged} name text fault {old = old} {new = new} {before = before} {after = after} named beside told =
     subst (λ (l : List ℕ). Follows is_logged (flush_named l) old before new after (Err (halt.Fault (stream_fault fault)))) named (record {
       simulates = record { steps = omega (arith, beside.steps); names = beside.names; told = λ t. text_unflushed text fault (told t) };
+      callers = callers_stay beside.frames;
     })

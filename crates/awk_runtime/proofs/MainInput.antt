@@ -28,7 +28,7 @@ use Rattle.awk_kinds.specs.declared.special.Special.TheVariants.{Rs}
 use Rattle.awk_kinds.specs.Variables.{value_of, name_of}
 use Rattle.awk_runtime.specs.declared.runtime.Runtime.{Runtime}
 use Rattle.awk_runtime.specs.support.Simulation.{OwnRelation, main_number, stage_of, StreamsRelation, StateRelation, FailureRelation, ResultRelation, SimulatesLogged, Simulates, IsReady, Follows, Beside, halted}
-use Rattle.awk_runtime.proofs.Composition.{inside_last, inside_spent, cut_off, cut_behind}
+use Rattle.awk_runtime.proofs.Composition.{inside_last, inside_spent, cut_off, cut_behind, callers_stay}
 use Rattle.awk_runtime.proofs.Effects.{turn_between, turn_requested}
 use Rattle.awk_runtime.proofs.Steps.{beside_holds}
 use Rattle.awk_runtime.proofs.Turns.{own_at, outputs_requested, stage_same}
@@ -322,6 +322,7 @@ pub at_hand_taken : (is_logged : Type 0) (byte : ℕ) (found : Option (List ℕ)
 at_hand_taken is_logged byte None rs beside there same_main told = tt
 at_hand_taken is_logged byte (Some first) rs beside there same_main told = λ k ready. record {
   simulates = asks_simulates (byte ∷ []) (Ok (Some first)) (sym rs) beside there same_main (λ t. told k ready.are_open (ready.are_sound t)) (λ (e : Ok (Some first) ≡ Err WriteFailed). absurd (cc));
+  callers = callers_stay beside.frames;
 }
 
 -- where no main input is open, none is taken
@@ -381,7 +382,7 @@ closes_logged {old = old} {new = new} {before = before} {after = after} beside t
 }
 
 pub closes_follows : {is_logged : Type 0} {old new : Runtime} {before after : WorldState} → Beside old new → (is_logged → EndsMain before old.streams after new.streams) → Follows is_logged close_main old before new after (Ok tt)
-closes_follows beside told = record { simulates = record { steps = omega (arith, beside.steps); names = beside.names; told = λ t. closes_logged beside (told t) } }
+closes_follows beside told = record { simulates = record { steps = omega (arith, beside.steps); names = beside.names; told = λ t. closes_logged beside (told t) }; callers = callers_stay beside.frames }
 
 pub none_of : (o : Option Input) → is_some o ≡ false → o ≡ None
 none_of None e = refl

@@ -38,7 +38,7 @@ use Rattle.awk_kinds.specs.Variables.{value_of, name_of}
 use Rattle.awk_runtime.specs.declared.runtime.Runtime.{Runtime}
 use Rattle.awk_runtime.specs.support.Simulation.{OwnRelation, main_number, stage_of, StreamsRelation, StateRelation, FailureRelation, ResultRelation, SimulatesLogged, Follows, IsReady, Beside, halted}
 use Rattle.awk_runtime.specs.support.NamedInputs.{answers_of}
-use Rattle.awk_runtime.proofs.Composition.{inside_last, inside_spent, cut_behind, then_logged, ends_logged}
+use Rattle.awk_runtime.proofs.Composition.{inside_last, inside_spent, cut_behind, then_logged, ends_logged, callers_stay}
 use Rattle.awk_runtime.proofs.Effects.{turn_requested}
 use Rattle.awk_runtime.proofs.Steps.{beside_holds}
 use Rattle.awk_runtime.proofs.Turns.{own_at, outputs_requested, goes_bringing_if, turn_brought, brought_as, memory_loses, write_loses, as_many, stage_same, stands_same}
@@ -374,4 +374,5 @@ next_follows {is_logged = is_logged} kind name text separator r {old = old} {new
         names = beside.names;
         told = λ t. next_by kind text separator r (told t).is_open (told t).world (told t).streams rs beside (ready.are_sound t).once (told t).opens (told t).asks;
       };
+      callers = callers_stay beside.frames;
     })

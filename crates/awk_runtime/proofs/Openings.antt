@@ -27,7 +27,7 @@ use Rattle.awk_semantics.specs.Order.{OutputBrought, first_stage}
 use Rattle.awk_runtime.specs.declared.runtime.Runtime.{Runtime}
 use Rattle.awk_runtime.specs.support.Simulation.{main_number, stage_of, StreamsRelation, StateRelation, ResultRelation, SimulatesLogged, Beside, halted}
 use Rattle.awk_runtime.specs.support.Printing.{standard_named, TargetOpened, TargetTold, OpensTarget}
-use Rattle.awk_runtime.proofs.Composition.{lift_logged, memory_logged}
+use Rattle.awk_runtime.proofs.Composition.{lift_logged, memory_logged, callers_stay}
 use Rattle.awk_runtime.proofs.Steps.{beside_holds}
 use Rattle.awk_runtime.proofs.Turns.{own_at, outputs_requested, goes_bringing_if, turn_brought, brought_as, memory_loses, write_loses, as_many, stage_same, stands_same}
 
@@ -173,12 +173,12 @@ output_told kind name mode (Err InputNotReadable) beside told = absurd told.open
 output_told kind name mode (Err RecordTooLong) beside told = absurd told.opened
 
 pub output_opens : {is_logged : Type 0} (kind : OutputKind) (name : List ℕ) (mode : Mode) (r : Result Target StreamFault) {old new : Runtime} {before after : WorldState} → Beside old new → (is_logged → OpensOutput kind name mode before old.streams r after new.streams) → OpensTarget is_logged (open_output kind name mode) old before new after (halted r)
-output_opens kind name mode r beside told = record { steps = omega (arith, beside.steps); names = beside.names; told = λ t. output_told kind name mode r beside (told t) }
+output_opens kind name mode r beside told = record { steps = omega (arith, beside.steps); names = beside.names; callers = callers_stay beside.frames; told = λ t. output_told kind name mode r beside (told t) }
 
 -- want of memory before it
 
 pub unopened : {is_logged : Type 0} (run : Run ℕ) (m : Runtime) (k : WorldState) → OpensTarget is_logged run m k m k (Err (halt.Fault faults.OutOfMemory))
-unopened run m k = record { steps = omega arith; names = refl; told = λ t. memory_logged m k run }
+unopened run m k = record { steps = omega arith; names = refl; callers = refl; told = λ t. memory_logged m k run }
 
 -- the standard outputs
 
@@ -195,5 +195,6 @@ pub standard_opens : {is_logged : Type 0} (name : List ℕ) (mode : Mode) (to : 
 standard_opens name mode to m k e = record {
   steps = omega arith;
   names = refl;
+  callers = refl;
   told = λ t. standard_by (bytes_eq name (codes "/dev/stdout")) (bytes_eq name (codes "/dev/stderr")) (open_output output.File name mode) to m k e;
 }

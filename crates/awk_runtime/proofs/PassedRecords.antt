@@ -100,10 +100,10 @@ no_frames (frame ∷ frames) e = absurd (cc)
 -- nothing is done on it
 ignored_logged : (unwanted : List ℕ → Type 0) (action : Run (Unit {0})) (m : Runtime) (k : WorldState) → Ignores action unwanted → m.frames.frames ≡ [] → unwanted m.current.text → SimulatesLogged m k m k (Ok tt) action
 ignored_logged unwanted action m k ignores outside none =
-    let still : Changes action m m (Ok tt) = own_changes action refl refl (omega arith) (λ s h. record {
+    let still : Changes action m m (Ok tt) = own_changes action refl refl refl (omega arith) (λ s h. record {
       result = Ok tt;
       state = s;
-      is = ignores s (no_frames s.frames (ap (λ (f : FramesView). f.frames) (sym h.frames) ∙ outside)) (subst (λ (r : RecordPair). unwanted r.text) (sym h.current) none);
+      is = ignores s (no_frames s.frames (sym h.frames ∙ outside)) (subst (λ (r : RecordPair). unwanted r.text) (sym h.current) none);
       part = same_part s;
       matches = refl;
       holds = h;
@@ -128,6 +128,7 @@ one_passed unwanted action {last = last} {after = after} {r = r} c line m k stre
     let m4 : Runtime = behind_line m streams line j specials in
     let taken : Follows (Unit {0}) take_record m k m1 k (Ok (Some line)) = record {
       simulates = asks_simulates (c ∷ []) (Ok (Some line)) (sym rs) (written m streams m.line m.formats) takes.there takes.same (λ t. takes.asks) (λ (e : found line ≡ Err WriteFailed). absurd (cc));
+      callers = refl;
     } in
     let read : SimulatesLogged m k m1 k (Ok (Some line)) next_record = (next_gives (main_gives taken)).simulates.told tt in
     let spends : SimulatesLogged m1 k m2 k (Ok tt) spend = (step_taken m1 j steps).changes.means k in
@@ -172,6 +173,7 @@ own_behind new current specials s same h = record {
   function_names = h.function_names;
   arrays = h.arrays;
   frames = h.frames;
+  staged = h.staged;
   next = h.next;
   input_seen = h.input_seen;
   inside = h.inside;

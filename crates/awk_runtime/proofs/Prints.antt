@@ -34,7 +34,7 @@ use Rattle.awk_kinds.specs.Variables.{value_of, name_of}
 use Rattle.awk_runtime.specs.declared.runtime.Runtime.{Runtime}
 use Rattle.awk_runtime.specs.support.Simulation.{OwnRelation, main_number, stage_of, StreamsRelation, StateRelation, FailureRelation, ResultRelation, SimulatesLogged, Changes, Follows, Beside, SameState, halted}
 use Rattle.awk_runtime.specs.support.Printing.{PrintsTo, OpensTarget, print_at, print_field_at}
-use Rattle.awk_runtime.proofs.Composition.{fails_last, may_fail_last, then_logged, ends_logged, lift_logged, memory_changes}
+use Rattle.awk_runtime.proofs.Composition.{fails_last, may_fail_last, then_logged, ends_logged, lift_logged, memory_changes, callers_stay}
 use Rattle.awk_runtime.proofs.Effects.{turn_between}
 use Rattle.awk_runtime.proofs.Steps.{beside_holds, reads_changes}
 use Rattle.awk_runtime.proofs.Turns.{same_logged, length-with_bytes, outputs_printed, spared}
@@ -137,6 +137,7 @@ pub values_printed : {is_logged : Type 0} (r : Result (Unit {0}) StreamFault) (t
 values_printed r to vs bytes {old = old} {new = new} {before = before} {after = after} line beside told fault = record {
   steps = omega (arith, beside.steps);
   names = beside.names;
+  callers = callers_stay beside.frames;
   told = λ t n place. same_logged (print_line n vs) (print_bytes n (line_in old vs)) (λ s h. line_as n vs old s h)
       (print_logged r to (line_in old vs) n beside place (subst (λ (l : List ℕ). Prints to l before old.streams r after new.streams) line (told t)) fault);
 }
@@ -176,7 +177,8 @@ pub unprinted : {is_logged : Type 0} (to : Target) (run : ℕ → Run (Unit {0})
 unprinted to run {old = old} {new = new} {k = k} same = record {
   steps = omega (arith, same.beside.steps);
   names = same.beside.names;
-  told = λ t n place. (memory_changes (run n) {old = old} {new = new} same.streams same.beside.names (omega (arith, same.beside.steps))).means k;
+  callers = callers_stay same.beside.frames;
+  told = λ t n place. (memory_changes (run n) {old = old} {new = new} same.streams same.beside.names (callers_stay same.beside.frames) (omega (arith, same.beside.steps))).means k;
 }
 
 -- the text of a format
@@ -186,6 +188,7 @@ pub format_printed : {is_logged : Type 0} (r : Result (Unit {0}) StreamFault) (t
 format_printed r to vs bytes text {old = old} {new = new} {before = before} {after = after} formats same beside told fault = record {
   steps = omega (arith, beside.steps);
   names = beside.names;
+  callers = callers_stay beside.frames;
   told = λ t n place. then_logged (λ text. print_bytes n text) (lift_logged (format_values vs) old before formats)
       (print_logged r to text n beside place (subst (λ (l : List ℕ). Prints to l before old.streams r after new.streams) same (told t)) fault);
 }
@@ -199,6 +202,7 @@ pub format_fails : {is_logged : Type 0} (to : Target) (vs : List Value) (h : Hal
 format_fails to vs h {k = k} yields same = record {
   steps = omega (arith, same.beside.steps);
   names = same.beside.names;
+  callers = callers_stay same.beside.frames;
   told = λ t n place. ends_logged (λ text. print_bytes n text) ((unformatted vs h yields same).means k);
 }
 
@@ -209,6 +213,7 @@ pub changed_and_printed : {is_logged : Type 0} {A : Type 0} (to : Target) {first
 changed_and_printed to {first = first} run {a = a} {old = old} {mid = mid} {k = k} p q = record {
   steps = omega (arith, p.steps, q.steps);
   names = q.names ∙ p.names;
+  callers = q.callers ∙ p.callers;
   told = λ t n place. then_logged (λ x. run x n) (p.means k) (q.told t n (subst (λ (v : StreamsView). opening_at to v k.log ≡ Some n) (sym p.streams) place));
 }
 
@@ -216,12 +221,14 @@ pub changed_and_ended : {is_logged : Type 0} {A : Type 0} (to : Target) {first :
 changed_and_ended to run {k = k} p = record {
   steps = p.steps;
   names = p.names;
+  callers = p.callers;
   told = λ t n place. ends_logged (λ x. run x n) (p.means k);
 }
 
 pub printed_to_output : {is_logged : Type 0} (run : ℕ → Run (Unit {0})) {old new : Runtime} {before after : WorldState} {r : Result (Unit {0}) Halt} → PrintsTo is_logged target.StandardOutput run old before new after r → Follows is_logged (ret 0 >>= run) old before new after r
 printed_to_output run {old = old} {before = before} p = record {
   simulates = record { steps = p.steps; names = p.names; told = λ t. then_logged run (lift_logged (Ok 0) old before refl) (p.told t 0 refl) };
+  callers = p.callers;
 }
 
 -- field 0 is the record
@@ -236,10 +243,11 @@ pub opened_and_printed : {is_logged : Type 0} {opens : Run ℕ} (run : ℕ → R
     → PrintsTo is_logged to run mid between new after r → Follows is_logged (opens >>= run) old before new after r
 opened_and_printed run p q = record {
   simulates = record { steps = omega (arith, p.steps, q.steps); names = q.names ∙ p.names; told = λ t. then_logged run (p.told t).simulates (q.told t (p.told t).opening (p.told t).place) };
+  callers = q.callers ∙ p.callers;
 }
 
 pub not_opened : {is_logged : Type 0} {opens : Run ℕ} (run : ℕ → Run (Unit {0})) {old mid : Runtime} {before between : WorldState} {h : Halt} → OpensTarget is_logged opens old before mid between (Err h) → Follows is_logged (opens >>= run) old before mid between (Err h)
-not_opened run p = record { simulates = record { steps = p.steps; names = p.names; told = λ t. ends_logged run (p.told t) } }
+not_opened run p = record { simulates = record { steps = p.steps; names = p.names; told = λ t. ends_logged run (p.told t) }; callers = p.callers }
 
 -- no values are printed where there are none
 pub no_values : (vs : List Value) → (length vs == 0) ≡ true → vs ≡ []

@@ -1,5 +1,5 @@
 -- What getline does with a record that was read.
-use Rattle.std.proofs.Common.{◌≡◌, ℕ, pos, List, Option, Some, None, Result, Ok, Err, refl, subst}
+use Rattle.std.proofs.Common.{◌∙◌, ◌≡◌, ℕ, pos, List, Option, Some, None, Result, Ok, Err, refl, subst}
 use Rattle.awk_value.specs.declared.value.Value.{Value}
 use Rattle.awk_value.specs.declared.value.Value.TheVariants as value
 use Rattle.awk_world.specs.declared.world.InputKind.{InputKind}
@@ -41,15 +41,15 @@ main_received p v text {m = m} {m1 = m1} {m4 = m4} x y z w = then_changes _ x.ch
 
 pub main_fails : {is_logged : Type 0} (p : Option Place) (v : Value) {m m1 : Runtime} {k k1 : WorldState} {h : Halt} → Follows is_logged next_record m k m1 k1 (Err h) → Follows is_logged (main_getline_at m.names.scalars p v) m k m1 k1 (Err h)
 unfolding main_getline_at
-main_fails p v x = record { simulates = ends_simulates _ x.simulates }
+main_fails p v x = record { simulates = ends_simulates _ x.simulates; callers = x.callers }
 
 pub main_gets : {is_logged : Type 0} (p : Option Place) (v : Value) (text : List ℕ) {m m1 m2 : Runtime} {k k1 : WorldState} {r : Result Value Halt} → Follows is_logged next_record m k m1 k1 (Ok (Some text)) → Changes (receive_main_at m1.names.scalars p v (Some text)) m1 m2 r → Follows is_logged (main_getline_at m.names.scalars p v) m k m2 k1 r
 unfolding main_getline_at
-main_gets p v text {m = m} {m1 = m1} x y = record { simulates = then_simulates _ x.simulates (change_simulates (renamed (λ names. receive_main_at names p v (Some text)) m m1 x.simulates.names y)) }
+main_gets p v text {m = m} {m1 = m1} x y = record { simulates = then_simulates _ x.simulates (change_simulates (renamed (λ names. receive_main_at names p v (Some text)) m m1 x.simulates.names y)); callers = y.callers ∙ x.callers }
 
 pub main_gets_none : {is_logged : Type 0} (p : Option Place) (v : Value) {m m1 : Runtime} {k k1 : WorldState} → Follows is_logged next_record m k m1 k1 (Ok None) → Follows is_logged (main_getline_at m.names.scalars p v) m k m1 k1 (Ok (value.Number (pos 0)))
 unfolding main_getline_at
-main_gets_none p v {m1 = m1} {k1 = k1} x = record { simulates = then_simulates _ x.simulates (lift_simulates _ m1 k1 refl) }
+main_gets_none p v {m1 = m1} {k1 = k1} x = record { simulates = then_simulates _ x.simulates (lift_simulates _ m1 k1 refl); callers = x.callers }
 
 -- a record of a file or a command
 
@@ -64,9 +64,9 @@ named_received kind p v text {m2 = m2} x y = then_changes _ x (then_changes _ y 
 
 pub named_fails : {is_logged : Type 0} (kind : InputKind) (name : List ℕ) (p : Option Place) (v : Value) {m m1 : Runtime} {k k1 : WorldState} {h : Halt} → Follows is_logged (next_of kind name) m k m1 k1 (Err h) → Follows is_logged (named_getline_at m.names.scalars kind name p v) m k m1 k1 (Err h)
 unfolding named_getline_at
-named_fails kind name p v x = record { simulates = ends_simulates _ x.simulates }
+named_fails kind name p v x = record { simulates = ends_simulates _ x.simulates; callers = x.callers }
 
 pub named_gets : {is_logged : Type 0} (kind : InputKind) (name : List ℕ) (p : Option Place) (v : Value) (found : Answer) {m m1 m2 : Runtime} {k k1 : WorldState} {r : Result Value Halt} → Follows is_logged (next_of kind name) m k m1 k1 (Ok found) → Changes (receive_named_at m1.names.scalars kind p v found) m1 m2 r
     → Follows is_logged (named_getline_at m.names.scalars kind name p v) m k m2 k1 r
 unfolding named_getline_at
-named_gets kind name p v found {m = m} {m1 = m1} x y = record { simulates = then_simulates _ x.simulates (change_simulates (renamed (λ names. receive_named_at names kind p v found) m m1 x.simulates.names y)) }
+named_gets kind name p v found {m = m} {m1 = m1} x y = record { simulates = then_simulates _ x.simulates (change_simulates (renamed (λ names. receive_named_at names kind p v found) m m1 x.simulates.names y)); callers = y.callers ∙ x.callers }

@@ -20,27 +20,27 @@ use Rattle.awk_runtime.proofs.Steps.{reads_changes, still}
 
 pub main_ends : {is_logged : Type 0} {m m1 : Runtime} {k k1 : WorldState} {h : Halt} → Follows is_logged take_record m k m1 k1 (Err h) → Seeks is_logged main_record m k m1 k1 (Err h)
 unfolding main_record
-main_ends p = record { simulates = ends_simulates _ p.simulates; closed = tt }
+main_ends p = record { simulates = ends_simulates _ p.simulates; callers = p.callers; closed = tt }
 
 pub main_gives : {is_logged : Type 0} {text : List ℕ} {m m1 : Runtime} {k k1 : WorldState} → Follows is_logged take_record m k m1 k1 (Ok (Some text)) → Seeks is_logged main_record m k m1 k1 (Ok (Some text))
 unfolding main_record
-main_gives {m1 = m1} {k1 = k1} p = record { simulates = then_simulates _ p.simulates (lift_simulates _ m1 k1 refl); closed = tt }
+main_gives {m1 = m1} {k1 = k1} p = record { simulates = then_simulates _ p.simulates (lift_simulates _ m1 k1 refl); callers = p.callers; closed = tt }
 
 pub main_closes : {is_logged : Type 0} {m m1 m2 : Runtime} {k k1 k2 : WorldState} → Follows is_logged take_record m k m1 k1 (Ok None) → Follows is_logged close_main m1 k1 m2 k2 (Ok tt) → m2.streams.main ≡ None → Seeks is_logged main_record m k m2 k2 (Ok None)
 unfolding main_record
-main_closes {m2 = m2} {k2 = k2} p q none = record { simulates = then_simulates _ p.simulates (then_simulates _ q.simulates (lift_simulates _ m2 k2 refl)); closed = none }
+main_closes {m2 = m2} {k2 = k2} p q none = record { simulates = then_simulates _ p.simulates (then_simulates _ q.simulates (lift_simulates _ m2 k2 refl)); callers = q.callers ∙ p.callers; closed = none }
 
 pub first_unopened : {is_logged : Type 0} {kind : InputKind} (name : List ℕ) {m m1 : Runtime} {k k1 : WorldState} {h : Halt} → OpensMainInput is_logged kind (path_of kind name) m k m1 k1 (Err h) → Seeks is_logged (first_record kind name) m k m1 k1 (Err h)
 unfolding first_record
-first_unopened name p = record { simulates = ends_simulates _ p.simulates; closed = tt }
+first_unopened name p = record { simulates = ends_simulates _ p.simulates; callers = p.callers; closed = tt }
 
 pub first_unnamed : {is_logged : Type 0} {kind : InputKind} (name : List ℕ) {m m1 m2 : Runtime} {k k1 : WorldState} {h : Halt} → OpensMainInput is_logged kind (path_of kind name) m k m1 k1 (Ok tt) → Changes (begin_input name) m1 m2 (Err h) → Seeks is_logged (first_record kind name) m k m2 k1 (Err h)
 unfolding first_record
-first_unnamed name p q = record { simulates = then_simulates _ p.simulates (ends_simulates _ (change_simulates q)); closed = tt }
+first_unnamed name p q = record { simulates = then_simulates _ p.simulates (ends_simulates _ (change_simulates q)); callers = q.callers ∙ p.callers; closed = tt }
 
 pub first_seeks : {is_logged : Type 0} {kind : InputKind} (name : List ℕ) {m m1 m2 m3 : Runtime} {k k1 k3 : WorldState} {r : Result (Option (List ℕ)) Halt} → OpensMainInput is_logged kind (path_of kind name) m k m1 k1 (Ok tt) → Changes (begin_input name) m1 m2 (Ok tt) → Seeks is_logged main_record m2 k1 m3 k3 r → Seeks is_logged (first_record kind name) m k m3 k3 r
 unfolding first_record
-first_seeks name p q r = record { simulates = then_simulates _ p.simulates (then_simulates _ (change_simulates q) r.simulates); closed = r.closed }
+first_seeks name p q r = record { simulates = then_simulates _ p.simulates (then_simulates _ (change_simulates q) r.simulates); callers = r.callers ∙ (q.callers ∙ p.callers); closed = r.closed }
 
 -- elements of ARGV
 
@@ -49,19 +49,19 @@ unfolding operand_record
 by_argument {is_logged = is_logged} word a {m = m} {new = new} {k = k} {after = after} {r = r} e p = subst (λ (x : Operand). Simulates is_logged m k new after r (record_by x word)) e p
 
 pub nothing_seeks : {is_logged : Type 0} (word : List ℕ) {m : Runtime} {k : WorldState} → Nothing ≡ operand_of word → m.streams.main ≡ None → Seeks is_logged (operand_record word) m k m k (Ok None)
-nothing_seeks word {m = m} {k = k} e none = record { simulates = by_argument word _ e (lift_simulates _ m k refl); closed = none }
+nothing_seeks word {m = m} {k = k} e none = record { simulates = by_argument word _ e (lift_simulates _ m k refl); callers = refl; closed = none }
 
 pub assignment_ends : {is_logged : Type 0} (word : List ℕ) {x text : List ℕ} {m m1 : Runtime} {k : WorldState} {h : Halt} → Assignment x text ≡ operand_of word → Changes (assign_text x text) m m1 (Err h) → Seeks is_logged (operand_record word) m k m1 k (Err h)
-assignment_ends word e p = record { simulates = by_argument word _ e (ends_simulates _ (change_simulates p)); closed = tt }
+assignment_ends word e p = record { simulates = by_argument word _ e (ends_simulates _ (change_simulates p)); callers = p.callers; closed = tt }
 
 pub assignment_seeks : {is_logged : Type 0} (word : List ℕ) {x text : List ℕ} {m m1 : Runtime} {k : WorldState} → Assignment x text ≡ operand_of word → m.streams.main ≡ None → Changes (assign_text x text) m m1 (Ok tt) → Seeks is_logged (operand_record word) m k m1 k (Ok None)
-assignment_seeks word {m1 = m1} {k = k} e none p = record { simulates = by_argument word _ e (then_simulates _ (change_simulates p) (lift_simulates _ m1 k refl)); closed = ap (λ s. s.main) p.streams ∙ none }
+assignment_seeks word {m1 = m1} {k = k} e none p = record { simulates = by_argument word _ e (then_simulates _ (change_simulates p) (lift_simulates _ m1 k refl)); callers = p.callers; closed = ap (λ s. s.main) p.streams ∙ none }
 
 pub standard_seeks : {is_logged : Type 0} (word : List ℕ) {m m1 : Runtime} {k k1 : WorldState} {r : Result (Option (List ℕ)) Halt} → StandardInput ≡ operand_of word → Seeks is_logged (first_record Standard word) m k m1 k1 r → Seeks is_logged (operand_record word) m k m1 k1 r
-standard_seeks word e p = record { simulates = by_argument word _ e p.simulates; closed = p.closed }
+standard_seeks word e p = record { simulates = by_argument word _ e p.simulates; callers = p.callers; closed = p.closed }
 
 pub file_seeks : {is_logged : Type 0} (word : List ℕ) {m m1 : Runtime} {k k1 : WorldState} {r : Result (Option (List ℕ)) Halt} → AFile ≡ operand_of word → Seeks is_logged (first_record File word) m k m1 k1 r → Seeks is_logged (operand_record word) m k m1 k1 r
-file_seeks word e p = record { simulates = by_argument word _ e p.simulates; closed = p.closed }
+file_seeks word e p = record { simulates = by_argument word _ e p.simulates; callers = p.callers; closed = p.closed }
 
 -- standard input for want of a file
 
@@ -71,32 +71,32 @@ served_is {m = m} e = reads_changes is_input_seen (λ s. Ok s.input_seen) (λ s.
 
 pub want_seen : {is_logged : Type 0} {m : Runtime} {k : WorldState} → m.input_seen ≡ true → m.streams.main ≡ None → Seeks is_logged standard_record m k m k (Ok None)
 unfolding standard_record
-want_seen {m = m} {k = k} e none = record { simulates = then_simulates _ (change_simulates (served_is e)) (lift_simulates _ m k refl); closed = none }
+want_seen {m = m} {k = k} e none = record { simulates = then_simulates _ (change_simulates (served_is e)) (lift_simulates _ m k refl); callers = refl; closed = none }
 
 pub want_unnamed : {is_logged : Type 0} {m : Runtime} {k : WorldState} {h : Halt} → Simulates is_logged m k m k (Err h) standard_record → Seeks is_logged standard_record m k m k (Err h)
-want_unnamed p = record { simulates = p; closed = tt }
+want_unnamed p = record { simulates = p; callers = refl; closed = tt }
 
 pub want_seeks : {is_logged : Type 0} {m m1 : Runtime} {k k1 : WorldState} {r : Result (Option (List ℕ)) Halt} → m.input_seen ≡ false → Seeks is_logged (first_record Standard []) m k m1 k1 r → Seeks is_logged standard_record m k m1 k1 r
 unfolding standard_record
-want_seeks e p = record { simulates = then_simulates _ (change_simulates (served_is e)) p.simulates; closed = p.closed }
+want_seeks e p = record { simulates = then_simulates _ (change_simulates (served_is e)) p.simulates; callers = p.callers; closed = p.closed }
 
 -- the search
 
 pub search_ends : {is_logged : Type 0} {m m1 : Runtime} {k : WorldState} {h : Halt} → Changes take_argument m m1 (Err h) → SearchesOn is_logged m k m1 k (Err h)
 unfolding search_operands_within
-search_ends p = record { simulates = λ n low. ends_simulates _ (change_simulates p) }
+search_ends p = record { simulates = λ n low. ends_simulates _ (change_simulates p); callers = p.callers }
 
 pub search_stops : {is_logged : Type 0} {word : List ℕ} {m m1 m2 : Runtime} {k : WorldState} {h : Halt} → Changes take_argument m m1 (Ok (Some word)) → Spends m1 m2 (Err h) → SearchesOn is_logged m k m2 k (Err h)
 unfolding search_operands_within
-search_stops p q = record { simulates = λ n low. then_simulates _ (change_simulates p) (ends_simulates _ (change_simulates q.changes)) }
+search_stops p q = record { simulates = λ n low. then_simulates _ (change_simulates p) (ends_simulates _ (change_simulates q.changes)); callers = q.changes.callers ∙ p.callers }
 
 pub search_halts : {is_logged : Type 0} {word : List ℕ} {m m1 m2 m3 : Runtime} {k k3 : WorldState} {h : Halt} → Changes take_argument m m1 (Ok (Some word)) → Spends m1 m2 (Ok tt) → Seeks is_logged (operand_record word) m2 k m3 k3 (Err h) → SearchesOn is_logged m k m3 k3 (Err h)
 unfolding search_operands_within
-search_halts p q r = record { simulates = λ n low. then_simulates _ (change_simulates p) (then_simulates _ (change_simulates q.changes) (ends_simulates _ r.simulates)) }
+search_halts p q r = record { simulates = λ n low. then_simulates _ (change_simulates p) (then_simulates _ (change_simulates q.changes) (ends_simulates _ r.simulates)); callers = r.callers ∙ (q.changes.callers ∙ p.callers) }
 
 pub search_gives : {is_logged : Type 0} {word text : List ℕ} {m m1 m2 m3 : Runtime} {k k3 : WorldState} → Changes take_argument m m1 (Ok (Some word)) → Spends m1 m2 (Ok tt) → Seeks is_logged (operand_record word) m2 k m3 k3 (Ok (Some text)) → SearchesOn is_logged m k m3 k3 (Ok (Some text))
 unfolding search_operands_within
-search_gives {m3 = m3} {k3 = k3} p q r = record { simulates = λ n low. then_simulates _ (change_simulates p) (then_simulates _ (change_simulates q.changes) (then_simulates _ r.simulates (lift_simulates _ m3 k3 refl))) }
+search_gives {m3 = m3} {k3 = k3} p q r = record { simulates = λ n low. then_simulates _ (change_simulates p) (then_simulates _ (change_simulates q.changes) (then_simulates _ r.simulates (lift_simulates _ m3 k3 refl))); callers = r.callers ∙ (q.changes.callers ∙ p.callers) }
 
 goes_at : (n : ℕ) {is_logged : Type 0} {word : List ℕ} {m m1 m2 m3 new : Runtime} {k k3 after : WorldState} {x : Result (Option (List ℕ)) Halt} → Changes take_argument m m1 (Ok (Some word)) → Spends m1 m2 (Ok tt) → Seeks is_logged (operand_record word) m2 k m3 k3 (Ok None) → SearchesOn is_logged m3 k3 new after x → m.steps ≤ n → Simulates is_logged m k new after x (search_operands_within (suc n))
 unfolding search_operands_within
@@ -104,11 +104,11 @@ goes_at zero p q r t low = absurd (omega (arith, p.steps, q.falls))
 goes_at (suc n) p q r t low = then_simulates _ (change_simulates p) (then_simulates _ (change_simulates q.changes) (then_simulates _ r.simulates (t.simulates n (omega (arith, p.steps, q.falls, r.simulates.steps)))))
 
 pub search_goes : {is_logged : Type 0} {word : List ℕ} {m m1 m2 m3 new : Runtime} {k k3 after : WorldState} {x : Result (Option (List ℕ)) Halt} → Changes take_argument m m1 (Ok (Some word)) → Spends m1 m2 (Ok tt) → Seeks is_logged (operand_record word) m2 k m3 k3 (Ok None) → SearchesOn is_logged m3 k3 new after x → SearchesOn is_logged m k new after x
-search_goes p q r t = record { simulates = λ n low. goes_at n p q r t low }
+search_goes p q r t = record { simulates = λ n low. goes_at n p q r t low; callers = t.callers ∙ (r.callers ∙ (q.changes.callers ∙ p.callers)) }
 
 pub search_over : {is_logged : Type 0} {m m1 m2 : Runtime} {k k2 : WorldState} {r : Result (Option (List ℕ)) Halt} → Changes take_argument m m1 (Ok None) → Seeks is_logged standard_record m1 k m2 k2 r → SearchesOn is_logged m k m2 k2 r
 unfolding search_operands_within
-search_over p q = record { simulates = λ n low. then_simulates _ (change_simulates p) q.simulates }
+search_over p q = record { simulates = λ n low. then_simulates _ (change_simulates p) q.simulates; callers = q.callers ∙ p.callers }
 
 pub searches_all : {is_logged : Type 0} {m new : Runtime} {k after : WorldState} {r : Result (Option (List ℕ)) Halt} → ClosedUnless r new → SearchesOn is_logged m k new after r → Seeks is_logged search_operands m k new after r
 unfolding search_operands
@@ -121,6 +121,7 @@ searches_all {m = m} closed p = record {
       means = λ oracle s past consistent stands. ((p.simulates s.steps (let same = stands.holds.steps in omega arith)).told t).means oracle s past consistent stands;
     };
   };
+  callers = p.callers;
   closed = closed;
 }
 
@@ -128,11 +129,11 @@ searches_all {m = m} closed p = record {
 
 pub next_ends : {is_logged : Type 0} {m m1 : Runtime} {k k1 : WorldState} {h : Halt} → Seeks is_logged main_record m k m1 k1 (Err h) → Follows is_logged next_record m k m1 k1 (Err h)
 unfolding next_record
-next_ends p = record { simulates = ends_simulates _ p.simulates }
+next_ends p = record { simulates = ends_simulates _ p.simulates; callers = p.callers }
 
 pub next_gives : {is_logged : Type 0} {text : List ℕ} {m m1 : Runtime} {k k1 : WorldState} → Seeks is_logged main_record m k m1 k1 (Ok (Some text)) → Follows is_logged next_record m k m1 k1 (Ok (Some text))
 unfolding next_record
-next_gives {m1 = m1} {k1 = k1} p = record { simulates = then_simulates _ p.simulates (lift_simulates _ m1 k1 refl) }
+next_gives {m1 = m1} {k1 = k1} p = record { simulates = then_simulates _ p.simulates (lift_simulates _ m1 k1 refl); callers = p.callers }
 
 -- a record that is at hand is the next one
 pub next_at_hand : (is_logged : Type 0) (found : Option (List ℕ)) (m m1 : Runtime) → IfSome found (λ text. (k : WorldState) → IsReady is_logged k m.streams → Follows is_logged take_record m k m1 k (Ok (Some text)))
@@ -142,7 +143,7 @@ next_at_hand is_logged (Some text) m m1 taken = λ k ready. next_gives (main_giv
 
 pub next_seeks : {is_logged : Type 0} {m m1 m2 : Runtime} {k k1 k2 : WorldState} {r : Result (Option (List ℕ)) Halt} → Seeks is_logged main_record m k m1 k1 (Ok None) → Seeks is_logged search_operands m1 k1 m2 k2 r → Follows is_logged next_record m k m2 k2 r
 unfolding next_record
-next_seeks p q = record { simulates = then_simulates _ p.simulates q.simulates }
+next_seeks p q = record { simulates = then_simulates _ p.simulates q.simulates; callers = q.callers ∙ p.callers }
 
 -- the rest of a word, as a slice of it
 pub slice_rest : (n : ℕ) (l : List ℕ) → take (length l - n) (drop n l) ≡ drop n l

@@ -20,6 +20,7 @@ use Rattle.awk_semantics.specs.Meaning.{StartValues, first_arrays, start_state}
 use Rattle.awk_runtime.specs.declared.runtime.Runtime.{Runtime}
 use Rattle.awk_runtime.specs.support.Naming.{Naming}
 use Rattle.awk_runtime.specs.support.Simulation.{OwnRelation, StreamsRelation, StateRelation}
+use Rattle.awk_runtime.proofs.Composition.{frames_stay, staged_stay}
 use Rattle.awk_runtime.specs.support.Beginning.{IsStart}
 
 -- a variable of the program was never assigned
@@ -55,7 +56,8 @@ module _ (items : List Item) (naming : Naming) (start : StartValues) (oracle : O
     array_names = sym arrays ∙ ap (λ (n : Naming). n.arrays) (sym is.names);
     function_names = sym functions ∙ ap (λ (n : Naming). n.functions) (sym is.names);
     arrays = ap (first_arrays start) (sym arrays) ∙ sym is.arrays;
-    frames = is.frames;
+    frames = frames_stay is.frames;
+    staged = staged_stay is.frames;
     next = sym is.next;
     input_seen = sym is.input_seen;
     inside = λ n. ap (λ (l : List Bool). unwrap_or (slice_get l n) false) (sym is.inside);

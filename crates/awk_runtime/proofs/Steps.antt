@@ -13,7 +13,7 @@ use Rattle.awk_semantics.specs.Primitives.{spend_of, spend}
 use Rattle.awk_runtime.specs.declared.runtime.Runtime.{Runtime}
 use Rattle.awk_runtime.specs.support.Simulation.{OwnRelation, ResultRelation, Changes, Spends, Beside, SameState}
 use Rattle.awk_runtime.specs.support.Naming.{Naming}
-use Rattle.awk_runtime.proofs.Composition.{own_changes, same_part}
+use Rattle.awk_runtime.proofs.Composition.{own_changes, same_part, frames_stay, staged_stay, callers_stay}
 
 -- nothing changes
 pub beside_self : (m : Runtime) → Beside m m
@@ -31,7 +31,8 @@ beside_holds {old = old} {new = new} {s = s} beside h = record {
   array_names = h.array_names ∙ ap (λ (n : Naming). n.arrays) (sym beside.names);
   function_names = h.function_names ∙ ap (λ (n : Naming). n.functions) (sym beside.names);
   arrays = h.arrays ∙ sym beside.arrays;
-  frames = beside.frames ∙ h.frames;
+  frames = frames_stay beside.frames ∙ h.frames;
+  staged = staged_stay beside.frames ∙ h.staged;
   next = h.next ∙ sym beside.next;
   input_seen = h.input_seen ∙ sym beside.input_seen;
   inside = λ n. h.inside n ∙ ap (λ (v : Vec Bool). unwrap_or (slice_get v.items n) false) (sym beside.inside);
@@ -42,7 +43,7 @@ beside_holds {old = old} {new = new} {s = s} beside h = record {
 -- a result that the code's own part determines
 pub reads_changes : {A : Type 0} {c : Result A Halt} {old new : Runtime} (run : Run A) (r : State → Result A Halt) → ((s : State) → run s ≡ record { result = r s; state = s; effects = [] }) → SameState old new → ((s : State) → OwnRelation old s → Yields c (r s)) → Changes run old new c
 reads_changes run r is same e =
-    own_changes run same.streams same.beside.names (omega (arith, same.beside.steps)) (λ s h. record { result = r s; state = s; is = is s; part = same_part s; matches = e s h; holds = beside_holds same.beside h })
+    own_changes run same.streams same.beside.names (callers_stay same.beside.frames) (omega (arith, same.beside.steps)) (λ s h. record { result = r s; state = s; is = is s; part = same_part s; matches = e s h; holds = beside_holds same.beside h })
 
 -- runs that are equal where the state stands for the code's
 
@@ -74,6 +75,7 @@ same_changes {old = old} {new = new} {r = r} x y e d = record {
   steps = d.steps;
   names = d.names;
   streams = d.streams;
+  callers = d.callers;
   means = λ k. record {
     grows = (d.means k).grows;
     means = λ oracle s past consistent stands. subst (λ (o : Out _). ResultRelation oracle new k r o past) (sym (e s stands.holds)) ((d.means k).means oracle s past consistent stands);
@@ -84,7 +86,7 @@ same_changes {old = old} {new = new} {r = r} x y e d = record {
 pub step_taken : (m : Runtime) (n : ℕ) → m.steps ≡ suc n → Spends m (record m { steps = n }) (Ok tt)
 unfolding spend
 step_taken m n is = record {
-  changes = own_changes spend refl refl (omega (arith, is)) (λ s h. record {
+  changes = own_changes spend refl refl refl (omega (arith, is)) (λ s h. record {
     result = Ok tt;
     state = record s { steps = n };
     is = ap (λ i. spend_of i s) (h.steps ∙ is);
@@ -99,6 +101,7 @@ step_taken m n is = record {
       function_names = h.function_names;
       arrays = h.arrays;
       frames = h.frames;
+      staged = h.staged;
       next = h.next;
       input_seen = h.input_seen;
       inside = h.inside;
@@ -114,7 +117,7 @@ step_taken m n is = record {
 pub no_step : (m : Runtime) → m.steps ≡ 0 → Spends m m (Err halt.OutOfSteps)
 unfolding spend
 no_step m is = record {
-  changes = own_changes spend refl refl (omega arith) (λ s h. record {
+  changes = own_changes spend refl refl refl (omega arith) (λ s h. record {
     result = Err halt.OutOfSteps;
     state = s;
     is = ap (λ i. spend_of i s) (h.steps ∙ is);

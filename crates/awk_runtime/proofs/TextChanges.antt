@@ -36,7 +36,7 @@ use Rattle.awk_runtime.specs.declared.runtime.Runtime.{Runtime}
 use Rattle.awk_runtime.specs.support.Simulation.{Changes, SameState}
 use Rattle.awk_runtime.specs.support.Naming.{Naming}
 use Rattle.awk_runtime.specs.support.Spelled.{record_tested, as_truth, exchange_read, pieces_by, with_pieces}
-use Rattle.awk_runtime.proofs.Composition.{then_changes, ends_changes, lift_changes, memory_changes}
+use Rattle.awk_runtime.proofs.Composition.{then_changes, ends_changes, lift_changes, memory_changes, callers_stay}
 use Rattle.awk_runtime.proofs.Steps.{assoc_at, later_same, still, reads_changes, same_changes}
 
 -- results
@@ -69,7 +69,7 @@ beside_then run same q =
 
 -- want of memory where nothing changed that the definitions know
 pub memory_beside : {A : Type 0} (run : Run A) {old new : Runtime} → SameState old new → Changes run old new (Err (halt.Fault OutOfMemory))
-memory_beside run same = memory_changes run same.streams same.beside.names (omega (arith, same.beside.steps))
+memory_beside run same = memory_changes run same.streams same.beside.names (callers_stay same.beside.frames) (omega (arith, same.beside.steps))
 
 -- the room of the code, and what it keeps of patterns and formats, are nothing that the definitions know
 pub room : (m : Runtime) (patterns : Patterns) (formats : Formats) (spans : Vec Span) → SameState m (record m { patterns = patterns; formats = formats; spans = spans })

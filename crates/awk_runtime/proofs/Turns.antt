@@ -48,6 +48,7 @@ own_at m s openings output_openings outputs closings runs main streams h = recor
   function_names = h.function_names;
   arrays = h.arrays;
   frames = h.frames;
+  staged = h.staged;
   next = h.next;
   input_seen = h.input_seen;
   inside = h.inside;

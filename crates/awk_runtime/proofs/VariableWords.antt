@@ -33,7 +33,7 @@ use Rattle.awk_storage.specs.Positions.{newest_locals, value_of_local, with_newe
 use Rattle.awk_runtime.specs.declared.runtime.Runtime.{Runtime}
 use Rattle.awk_runtime.specs.support.Simulation.{frame_view, OwnRelation, Changes, SameState}
 use Rattle.awk_runtime.specs.support.Naming.{Naming, AreOwn}
-use Rattle.awk_runtime.proofs.Composition.{own_changes, then_changes, ends_changes, lift_changes, memory_changes}
+use Rattle.awk_runtime.proofs.Composition.{own_changes, then_changes, ends_changes, lift_changes, memory_changes, frames_stay, staged_stay, callers_stay}
 use Rattle.awk_runtime.proofs.Steps.{still, reads_changes, same_changes}
 
 -- texts that are compared
@@ -75,7 +75,8 @@ variables_hold {old = old} {new = new} s variables same are h = record {
   array_names = h.array_names ∙ ap (λ (n : Naming). n.arrays) (sym same.names);
   function_names = h.function_names ∙ ap (λ (n : Naming). n.functions) (sym same.names);
   arrays = h.arrays ∙ sym same.arrays;
-  frames = same.frames ∙ h.frames;
+  frames = frames_stay same.frames ∙ h.frames;
+  staged = staged_stay same.frames ∙ h.staged;
   next = h.next ∙ sym same.next;
   input_seen = h.input_seen ∙ sym same.input_seen;
   inside = λ n. h.inside n ∙ ap (λ (v : Vec Bool). unwrap_or (slice_get v.items n) false) (sym same.inside);
@@ -86,7 +87,7 @@ variables_hold {old = old} {new = new} s variables same are h = record {
 -- a name gets a value that no rule of FS refuses
 given_value : {old new : Runtime} (run : Run (Unit {0})) (x : List ℕ) (v : Value) → SameButVariables old new → ((s : State) → OwnRelation old s → run s ≡ gives tt (with_variable x v s)) → ((s : State) → OwnRelation old s → AreValues new (with_value s.variables x v)) → Changes run old new (Ok tt)
 given_value run x v same is are =
-    own_changes run same.streams same.names (omega (arith, same.steps)) (λ s h. record {
+    own_changes run same.streams same.names (callers_stay same.frames) (omega (arith, same.steps)) (λ s h. record {
       result = Ok tt;
       state = record s { variables = with_value s.variables x v };
       is = is s h;
@@ -156,7 +157,7 @@ abbrev pub failed : TextFault → Result (Unit {0}) TextFault
 failed e = Err e
 
 pub special_fails : (x : Special) (v : Value) (e : TextFault) {old new : Runtime} → (e ≡ Pattern → is_refused (name_of x) v ≡ true) → SameState old new → Changes (put_special x v) old new (Err (halt.Fault (text_fault e)))
-special_fails x v Memory why same = memory_changes _ same.streams same.beside.names (omega (arith, same.beside.steps))
+special_fails x v Memory why same = memory_changes _ same.streams same.beside.names (callers_stay same.beside.frames) (omega (arith, same.beside.steps))
 special_fails x v Pattern why same = special_refused x v (why refl) same
 
 -- the same of a special variable's name
@@ -247,8 +248,8 @@ unknown_put x v {m = m} plain own absent =
 -- slots
 
 -- where the relation holds of no state, all is so
-never : {A : Type 0} {r : Result A Halt} {old new : Runtime} (run : Run A) → new.streams ≡ old.streams → new.names ≡ old.names → new.steps ≤ old.steps → ((s : State) → OwnRelation old s → ⊥) → Changes run old new r
-never run streams names steps none = own_changes run streams names steps (λ s h. absurd (none s h))
+never : {A : Type 0} {r : Result A Halt} {old new : Runtime} (run : Run A) → new.streams ≡ old.streams → new.names ≡ old.names → new.frames.callers ≡ old.frames.callers → new.steps ≤ old.steps → ((s : State) → OwnRelation old s → ⊥) → Changes run old new r
+never run streams names callers steps none = own_changes run streams names callers steps (λ s h. absurd (none s h))
 
 -- there is an element at each place within
 none_within : {A : Type 0} (xs : List A) (i : ℕ) → slice_get xs i ≡ None → i < length xs → ⊥
@@ -258,7 +259,7 @@ none_within (x ∷ xs) (suc i) e low = none_within xs i e (omega (arith, low))
 
 slot_value : (o : Option (List ℕ)) (i : ℕ) (m : Runtime) → slice_get m.names.scalars i ≡ o → AreOwn m.names.scalars → i < length m.globals.items → Changes (read_slot o) m m (Ok (get_or m.globals.items i value.Nothing))
 unfolding read_outside
-slot_value None i m at own low = never _ refl refl (omega arith) (λ s h. none_within m.names.scalars i at (omega (arith, low, h.slots)))
+slot_value None i m at own low = never _ refl refl refl (omega arith) (λ s h. none_within m.names.scalars i at (omega (arith, low, h.slots)))
 slot_value (Some x) i m at own low =
     reads_changes _ (λ s. Ok (s.variables x)) (λ s. ap (λ b. gives (if b then value.Number (pos (length s.current.fields)) else s.variables x) s) (own i x at).0) (still m) (λ s h. ap (λ w. Ok w) (h.globals i x at))
 
@@ -268,13 +269,13 @@ slot_read i m {v = v} own at =
 
 past : (o : Option (List ℕ)) (i : ℕ) (m : Runtime) → slice_get m.names.scalars i ≡ o → length m.globals.items ≤ i → Changes (read_slot o) m m (Ok value.Nothing)
 past None i m at high = lift_changes _ m refl
-past (Some x) i m at high = never _ refl refl (omega arith) (λ s h. omega (arith, h.slots, slice_get_within m.names.scalars i x at))
+past (Some x) i m at high = never _ refl refl refl (omega arith) (λ s h. omega (arith, h.slots, slice_get_within m.names.scalars i x at))
 
 pub slot_past : (i : ℕ) (m : Runtime) → length m.globals.items ≤ i → Changes (read_slot (slice_get m.names.scalars i)) m m (Ok value.Nothing)
 slot_past i m high = past (slice_get m.names.scalars i) i m refl high
 
 put_by_slot : (o : Option (List ℕ)) (i : ℕ) (v : Value) {old new : Runtime} → slice_get old.names.scalars i ≡ o → i < length old.globals.items → AreOwn old.names.scalars → AreDistinct old.names.scalars → new.globals.items ≡ set old.globals.items i v → new.specials ≡ old.specials → SameButVariables old new → Changes (put_slot o v) old new (Ok tt)
-put_by_slot None i v {old = old} at low own distinct put specials same = never _ same.streams same.names (omega (arith, same.steps)) (λ s h. none_within old.names.scalars i at (omega (arith, low, h.slots)))
+put_by_slot None i v {old = old} at low own distinct put specials same = never _ same.streams same.names (callers_stay same.frames) (omega (arith, same.steps)) (λ s h. none_within old.names.scalars i at (omega (arith, low, h.slots)))
 put_by_slot (Some x) i v at low own distinct put specials same = slot_put i x v at own distinct put specials same
 
 pub slot_given : (i : ℕ) (v : Value) {old new : Runtime} → i < length old.globals.items → AreOwn old.names.scalars → AreDistinct old.names.scalars → new.globals.items ≡ set old.globals.items i v → new.specials ≡ old.specials → SameButVariables old new → Changes (put_slot (slice_get old.names.scalars i) v) old new (Ok tt)
@@ -282,7 +283,7 @@ slot_given i v {old = old} low own distinct put specials same = put_by_slot (sli
 
 put_past : (o : Option (List ℕ)) (i : ℕ) (v : Value) (m : Runtime) → slice_get m.names.scalars i ≡ o → length m.globals.items ≤ i → Changes (put_slot o v) m m (Ok tt)
 put_past None i v m at high = lift_changes _ m refl
-put_past (Some x) i v m at high = never _ refl refl (omega arith) (λ s h. omega (arith, h.slots, slice_get_within m.names.scalars i x at))
+put_past (Some x) i v m at high = never _ refl refl refl (omega arith) (λ s h. omega (arith, h.slots, slice_get_within m.names.scalars i x at))
 
 pub slot_not_given : (i : ℕ) (v : Value) (m : Runtime) → length m.globals.items ≤ i → Changes (put_slot (slice_get m.names.scalars i) v) m m (Ok tt)
 slot_not_given i v m high = put_past (slice_get m.names.scalars i) i v m refl high
@@ -308,7 +309,7 @@ pub local_read : (i : ℕ) (m : Runtime) {v : Value} → v ≡ value_in (slice_g
 unfolding read_local
 local_read i m {v = v} e =
     reads_changes _ (λ s. Ok (value_of_local (slice_get (newest_locals s.frames) i))) (λ s. refl) (still m)
-    (λ s h. ap (λ w. Ok w) (local_value (slice_get (newest_locals s.frames) i) ∙ ap value_in (sym (newest-view s.frames i) ∙ ap (λ (f : FramesView). slice_get (newest_of f.frames) i) (sym h.frames)) ∙ sym e))
+    (λ s h. ap (λ w. Ok w) (local_value (slice_get (newest_locals s.frames) i) ∙ ap value_in (sym (newest-view s.frames i) ∙ ap (λ fs. slice_get (newest_of fs) i) (sym h.frames)) ∙ sym e))
 
 -- the calls behind a parameter that was given a value
 abbrev pub frames_after : Option (List ℕ × Local) → ℕ → Value → List Frame → List Frame
@@ -351,8 +352,8 @@ pub record SameButFrames (old new : Runtime) : Type 0 where
   pub status : new.status ≡ old.status
   pub steps : new.steps ≡ old.steps
 
-frames_hold : {old new : Runtime} (s : State) (frames : List Frame) → SameButFrames old new → new.frames ≡ record { frames = map frame_view frames; staged = [] } → OwnRelation old s → OwnRelation new (record s { frames = frames })
-frames_hold {old = old} {new = new} s frames same is h = record {
+frames_hold : {old new : Runtime} (s : State) (frames : List Frame) → SameButFrames old new → new.frames.frames ≡ map frame_view frames → new.frames.staged ≡ old.frames.staged → OwnRelation old s → OwnRelation new (record s { frames = frames })
+frames_hold {old = old} {new = new} s frames same is staged h = record {
   current = h.current ∙ sym same.current;
   specials = λ x. h.specials x ∙ ap (λ v. value_of v (name_of x)) (sym same.specials);
   globals = λ i x at. h.globals i x (subst (λ (n : Naming). slice_get n.scalars i ≡ Some x) same.names at) ∙ ap (λ (v : Vec Value). get_or v.items i value.Nothing) (sym same.globals);
@@ -361,6 +362,7 @@ frames_hold {old = old} {new = new} s frames same is h = record {
   function_names = h.function_names ∙ ap (λ (n : Naming). n.functions) (sym same.names);
   arrays = h.arrays ∙ sym same.arrays;
   frames = is;
+  staged = staged ∙ h.staged;
   next = h.next ∙ sym same.next;
   input_seen = h.input_seen ∙ sym same.input_seen;
   inside = λ n. h.inside n ∙ ap (λ (v : Vec Bool). unwrap_or (slice_get v.items n) false) (sym same.inside);
@@ -372,13 +374,12 @@ frames_hold {old = old} {new = new} s frames same is h = record {
 pub local_given : (i : ℕ) (v : Value) {old new : Runtime} → new.frames ≡ record old.frames { frames = with_value_at (slice_get (newest_of old.frames.frames) i) i v old.frames.frames } → SameButFrames old new → Changes (put_local i v) old new (Ok tt)
 unfolding put_local
 local_given i v {old = old} put same =
-    own_changes _ same.streams same.names (omega (arith, same.steps)) (λ s h. record {
+    own_changes _ same.streams same.names (callers_stay put) (omega (arith, same.steps)) (λ s h. record {
       result = Ok tt;
       state = record s { frames = frames_after (slice_get (newest_locals s.frames) i) i v s.frames };
       is = ap (gives tt) (with_local-is (slice_get (newest_locals s.frames) i) i v s);
       part = record { outside = refl; openings = refl; output_openings = refl; closings = refl; runs = refl; outputs = refl; main = refl; streams = refl };
       matches = refl;
       holds = frames_hold s (frames_after (slice_get (newest_locals s.frames) i) i v s.frames) same
-          (put ∙ ap (λ (f : FramesView). record f { frames = with_value_at (slice_get (newest_of f.frames) i) i v f.frames }) h.frames
-          ∙ ap (λ l. record { frames = l; staged = [] }) (frames_given s.frames i v)) h;
+          (frames_stay put ∙ ap (λ fs. with_value_at (slice_get (newest_of fs) i) i v fs) h.frames ∙ frames_given s.frames i v) (staged_stay put) h;
     })

@@ -25,7 +25,7 @@ use Rattle.awk_semantics.specs.BuiltIns.{record_length}
 use Rattle.awk_runtime.specs.declared.runtime.Runtime.{Runtime}
 use Rattle.awk_runtime.specs.support.Simulation.{OwnRelation, Changes, SameState}
 use Rattle.awk_runtime.specs.support.Naming.{Naming}
-use Rattle.awk_runtime.proofs.Composition.{own_changes, same_part, then_changes, ends_changes, lift_changes, memory_changes}
+use Rattle.awk_runtime.proofs.Composition.{own_changes, same_part, then_changes, ends_changes, lift_changes, memory_changes, frames_stay, staged_stay, callers_stay}
 use Rattle.awk_runtime.proofs.Steps.{still, beside_holds, reads_changes, same_changes}
 
 -- The record and its fields.
@@ -92,7 +92,8 @@ record_holds {old = old} {new = new} s r same is h = record {
   array_names = h.array_names ∙ ap (λ (n : Naming). n.arrays) (sym same.names);
   function_names = h.function_names ∙ ap (λ (n : Naming). n.functions) (sym same.names);
   arrays = h.arrays ∙ sym same.arrays;
-  frames = same.frames ∙ h.frames;
+  frames = frames_stay same.frames ∙ h.frames;
+  staged = staged_stay same.frames ∙ h.staged;
   next = h.next ∙ sym same.next;
   input_seen = h.input_seen ∙ sym same.input_seen;
   inside = λ n. h.inside n ∙ ap (λ (v : Vec Bool). unwrap_or (slice_get v.items n) false) (sym same.inside);
@@ -103,7 +104,7 @@ record_holds {old = old} {new = new} s r same is h = record {
 -- the record becomes another one
 pub becomes : {old new : Runtime} (run : Run (Unit {0})) (r : RecordPair) → ((s : State) → OwnRelation old s → run s ≡ set_current (Ok r) s) → r ≡ new.current → SameButRecord old new → Changes run old new (Ok tt)
 becomes run r is e same =
-    own_changes run same.streams same.names (omega (arith, same.steps)) (λ s h. record {
+    own_changes run same.streams same.names (callers_stay same.frames) (omega (arith, same.steps)) (λ s h. record {
       result = Ok tt;
       state = record s { current = r };
       is = is s h;
@@ -154,10 +155,10 @@ field_set n v between {new = new} other e is same =
 -- a record that can't be made
 refused_by : {old new : Runtime} (run : Run (Unit {0})) (h : Halt) → ((s : State) → OwnRelation old s → run s ≡ record { result = Err h; state = s; effects = [] }) → Yields {A = Unit {0}} (Err h) (Err h) → SameState old new → Changes run old new (Err h)
 refused_by run h is matches same =
-    own_changes run same.streams same.beside.names (omega (arith, same.beside.steps)) (λ s holds. record { result = Err h; state = s; is = is s holds; part = same_part s; matches = matches; holds = beside_holds same.beside holds })
+    own_changes run same.streams same.beside.names (callers_stay same.beside.frames) (omega (arith, same.beside.steps)) (λ s holds. record { result = Err h; state = s; is = is s holds; part = same_part s; matches = matches; holds = beside_holds same.beside holds })
 
 refused : {old new : Runtime} (run : Run (Unit {0})) (e : RecordFault) (r : Result RecordPair RecordFault) → ((s : State) → OwnRelation old s → run s ≡ set_current (of_record r) s) → (e ≢ record_faults.Memory → Err e ≡ r) → SameState old new → Changes run old new (Err (halt.Fault (record_fault e)))
-refused run record_faults.Memory r is why same = memory_changes _ same.streams same.beside.names (omega (arith, same.beside.steps))
+refused run record_faults.Memory r is why same = memory_changes _ same.streams same.beside.names (callers_stay same.beside.frames) (omega (arith, same.beside.steps))
 refused run record_faults.Pattern r is why same = refused_by run _ (λ s h. is s h ∙ ap (λ r. set_current (of_record r) s) (sym (why (λ e. absurd (cc))))) refl same
 refused run record_faults.FieldNumber r is why same = refused_by run _ (λ s h. is s h ∙ ap (λ r. set_current (of_record r) s) (sym (why (λ e. absurd (cc))))) refl same
 

@@ -1,18 +1,18 @@
 // Calls of functions.
 
 ghost use Rattle.std.specs.Prelude.{◌≡◌, ◌+◌, ◌<◌, ◌≤◌, ◌∷◌, [], true, Ok, OnOk, OnErr, IfErr};
-ghost use Rattle.awk_semantics.specs.Primitives.{check_height, leave};
+ghost use Rattle.awk_semantics.specs.Primitives.{check_height};
 ghost use Rattle.awk_semantics.specs.declared.local.Local.{Local as Given};
 ghost use Rattle.awk_semantics.specs.declared.local.Local.TheVariants.{Value as GivenValue, Array as GivenArray};
 ghost use Rattle.awk_semantics.specs.Results.{IsWantOfMemory};
 ghost use Rattle.awk_storage.specs.Control.{highest_sum};
 ghost use Rattle.awk_storage.specs.support.Frames.{heights_of};
 ghost use Rattle.awk_runtime.specs.support.Simulation.{Changes};
-ghost use Rattle.awk_runtime.specs.support.Calling.{kept_number, Gives, Refused, with_missing, completed, EntersCall, EndsCalls};
+ghost use Rattle.awk_runtime.specs.support.Calling.{kept_number, Gives, Refused, with_missing, completed, EntersCall, LeavesCall, EndsCalls};
 
 use crate::runtime::Runtime;
 use awk_semantics::{Fault, Halt, Local};
-use awk_storage::Array;
+use awk_storage::{Array, Caller};
 use awk_value::Value;
 
 impl Runtime {
@@ -110,36 +110,42 @@ impl Runtime {
     /// assigned, or is a new empty array. `kinds` tells of each parameter whether it is an array. (POSIX awk, User-Defined
     /// Functions)
     #[inline(always)]
-    pub fn enter_call(&mut self, kinds: &[bool], height: u64) -> Result<(), Halt>
+    pub fn enter_call(&mut self, kinds: &[bool], height: u64, caller: Caller) -> Result<(), Halt>
         requires high { 0 < height }
         requires low { heights_of self.old.frames.frames + height ≤ highest_sum }
-        ensures { EntersCall kinds.now height self.old self.new result }
+        ensures { EntersCall kinds.now height caller self.old self.new result }
     {
         let arrays_before = self.arrays.len();
         self.complete_given(kinds)?;
-        self.frames.enter(height, arrays_before)?;
+        self.frames.enter(height, arrays_before, caller)?;
         Ok(())
     }
 
-    /// The newest call is over, and the arrays that it made are no more. (POSIX awk, User-Defined Functions)
+    /// The newest call is over, and the arrays that it made are no more. Gives its caller, if there is one. (POSIX awk,
+    /// User-Defined Functions)
     #[inline(always)]
-    pub fn leave_call(&mut self)
-        ensures { Changes leave self.old self.new (Ok tt) }
+    pub fn leave_call(&mut self) -> Option<Caller>
+        ensures { LeavesCall self.old result self.new }
     {
-        let Some(count) = self.frames.arrays_before() else {
-            return;
-        };
-        self.arrays.truncate(count);
-        self.frames.leave();
+        let left = self.frames.leave()?;
+        self.arrays.truncate(left.arrays_before);
+        Some(left.caller)
+    }
+
+    /// Whether no call is active.
+    #[inline(always)]
+    pub fn calls_are_over(&self) -> bool
+        ensures { result ≡ true → self.now.frames.callers ≡ [] }
+    {
+        self.frames.are_over()
     }
 
     /// No call is active any more, and the arrays that calls made are no more.
     pub fn end_calls(&mut self)
         ensures { EndsCalls self.old self.new }
     {
-        while let Some(count) = self.frames.arrays_before() {
-            self.arrays.truncate(count);
-            self.frames.leave();
+        while let Some(left) = self.frames.leave() {
+            self.arrays.truncate(left.arrays_before);
         }
     }
 }

@@ -25,14 +25,14 @@ pub enum ElementKey<'a> {
 
 /// The key as a subscript, unless the record's text is still to be made.
 #[inline(always)]
-pub(crate) fn subscript_of<'a>(record: &'a Record, key: ElementKey<'a>) -> Option<Subscript<'a>>
-    requires { StandsIn record.now.text key }
-    ensures { IfSome result (λ subscript. key_of subscript ≡ str_of (key_value record.now.text key.entry)) }
+pub(crate) fn subscript_of<'a>(current: &'a Record, key: ElementKey<'a>) -> Option<Subscript<'a>>
+    requires { StandsIn current.now.text key }
+    ensures { IfSome result (λ subscript. key_of subscript ≡ str_of (key_value current.now.text key.entry)) }
 {
     match key {
         ElementKey::Number(number) => Some(Subscript::Number(number)),
         ElementKey::Stretch(span) => {
-            let text = record.text_at_hand()?;
+            let text = current.text_at_hand()?;
             Some(Subscript::Text(&text.as_slice()[span.start..span.end]))
         }
         ElementKey::Text(text) => Some(Subscript::Text(text)),

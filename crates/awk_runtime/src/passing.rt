@@ -119,6 +119,7 @@ impl Runtime {
     /// is asked of a world, and nobody sees their texts. Takes no memory. `false` where none ever will be passed over: of the
     /// ERE no text is known that stands in each match. (POSIX awk, Overall Program Structure; Patterns)
     pub fn pass_over<W: World>(&mut self, unwanted: Unwanted) -> bool
+        ensures callers { self.new.frames.callers ≡ self.old.frames.callers }
         ensures ready { (k : WorldState) → IsReady W.is_logged k self.old.streams → IsReady W.is_logged k self.new.streams }
         ensures passes { (k : WorldState) → IsReady W.is_logged k self.old.streams →
             PassesOver W.is_logged (IsUnwanted self.old.names unwanted) self.old k self.new }
@@ -147,7 +148,7 @@ impl Runtime {
     fn unwanted_at_hand(&self, unwanted: Unwanted) -> Option<Passed>
         ensures { IfSome result (MayPass unwanted self.now) }
     {
-        if self.steps == 0 || self.frames.arrays_before().is_some() {
+        if self.steps == 0 || !self.frames.are_over() {
             return None;
         }
         let separator = self.specials.record_separator_byte()?;

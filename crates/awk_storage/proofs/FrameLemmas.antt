@@ -1,16 +1,16 @@
 -- Calls, as they are kept in one list of all parameters.
-use Rattle.std.proofs.Common.{◌≡◌, ℕ, zero, suc, ◌+◌, ◌-◌, ◌<◌, ◌≤◌, List, [], ◌∷◌, ◌++◌, length, take, drop, set, refl, sym, ap, ◌∙◌, subst, arith, length-append, length-drop, length-take, length-set}
+use Rattle.std.proofs.Common.{◌≡◌, ℕ, zero, suc, ◌+◌, ◌-◌, ◌<◌, ◌≤◌, List, [], ◌∷◌, ◌++◌, length, map, reverse, take, drop, set, refl, sym, ap, ◌∙◌, subst, arith, length-append, length-drop, length-take, length-set}
 use Rattle.std.specs.Prelude.{slice_get, Some, None}
 use Rattle.std.specs.List.{sum}
 use Rattle.std.proofs.lemmas.List.Sums.{sum_by-cons}
 use Rattle.awk_value.specs.declared.value.Value.{Value}
-use Rattle.std.proofs.lemmas.List.{take-append-le, drop-append-le, drop-drop, drop-take, take-append-drop, take_all, drop_all, drop-set-add, drop-set-lt, take-set-le}
+use Rattle.std.proofs.lemmas.List.{take-append-le, drop-append-le, drop-drop, drop-take, take-append-drop, take_all, drop_all, drop-set-add, drop-set-lt, take-set-le, map-append, reverse-append}
 use Rattle.awk_semantics.specs.declared.local.Local.{Local}
 use Rattle.awk_storage.specs.declared.entry.Entry.{Entry}
 use Rattle.awk_storage.specs.Control.{but_last}
 use Rattle.awk_storage.proofs.ItemLemmas.{take-set}
 use Rattle.awk_storage.proofs.Heights.{but_last_more}
-use Rattle.awk_storage.specs.support.Frames.{FrameView, FramesView, Saved, saved_of, frame_of, frames_from, total_count, front_of, newest_count, AreKept, heights_of, older_of, newest_of, arrays_before_of, with_newest_of, given, with_value_at}
+use Rattle.awk_storage.specs.support.Frames.{FrameView, ActiveView, Saved, saved_of, frame_of, frames_from, total_count, front_of, newest_count, callers_in, AreKept, heights_of, older_of, newest_of, arrays_before_of, with_newest_of, given, with_value_at}
 
 -- more at the end is given to the next call
 pub frames-append : (older : List FrameView) (locals more : List Local) (saved : List Saved) → total_count saved ≤ length locals → frames_from older (locals ++ more) saved ≡ record { frames = (frames_from older locals saved).frames; staged = (frames_from older locals saved).staged ++ more }
@@ -37,7 +37,7 @@ frames-take older locals saved n low high =
     let cut = take n locals in
     let whole : frames_from older locals saved ≡ record { frames = (frames_from older cut saved).frames; staged = (frames_from older cut saved).staged ++ drop n locals } =
     ap (λ l. frames_from older l saved) (sym (take-append-drop n locals)) ∙ frames-append older cut (drop n locals) saved (omega (arith, length-take n locals)) in
-    ap (λ fs. record { frames = fs; staged = (frames_from older cut saved).staged }) (sym (ap (λ (v : FramesView). v.frames) whole))
+    ap (λ fs. record { frames = fs; staged = (frames_from older cut saved).staged }) (sym (ap (λ (v : ActiveView). v.frames) whole))
     ∙ ap (λ l. record { frames = (frames_from older locals saved).frames; staged = l }) (staged-is older cut saved)
 
 pub count-snoc : (saved : List Saved) (x : Saved) → total_count (saved ++ x ∷ []) ≡ total_count saved + x.count
@@ -109,7 +109,7 @@ slice_get-long (x ∷ xs) (suc n) (suc i) low = slice_get-long xs n i (omega ari
 -- the parameters of the newest call stand in the middle of all
 module _ (front : List Saved) (last : Saved) (locals : List Local) where
   newest-is : newest_of (frames_from [] locals (front ++ last ∷ [])).frames ≡ take last.count (drop (total_count front) locals)
-  newest-is = ap (λ (v : FramesView). newest_of v.frames) (frames-snoc [] locals front last) ∙ ap (take last.count) (staged-is [] locals front)
+  newest-is = ap (λ (v : ActiveView). newest_of v.frames) (frames-snoc [] locals front last) ∙ ap (take last.count) (staged-is [] locals front)
 
   newest-get : (i : ℕ) → i < last.count → slice_get (newest_of (frames_from [] locals (front ++ last ∷ [])).frames) i ≡ slice_get locals (total_count front + i)
   newest-get i low = ap (λ l. slice_get l i) newest-is ∙ (slice_get-take (drop (total_count front) locals) last.count i low ∙ slice_get-drop locals (total_count front) i)
@@ -126,7 +126,7 @@ module _ (front : List Saved) (last : Saved) (locals : List Local) (i : ℕ) (l 
       let cut : take b new ≡ take b locals = take-set-le b locals (b + i) l (omega arith) in
       let one = frames-take [] new front b (omega arith) (omega (arith, length-set locals (b + i) l)) in
       let two = frames-take [] locals front b (omega arith) (omega arith) in
-      ap (λ (v : FramesView). v.frames) (sym one ∙ (ap (λ x. frames_from [] x front) cut ∙ two))
+      ap (λ (v : ActiveView). v.frames) (sym one ∙ (ap (λ x. frames_from [] x front) cut ∙ two))
 
   pub with-given : frames_from [] (set locals (total_count front + i) l) (front ++ last ∷ [])
       ≡ record { frames = with_newest_of (set (newest_of (frames_from [] locals (front ++ last ∷ [])).frames) i l) (frames_from [] locals (front ++ last ∷ [])).frames; staged = (frames_from [] locals (front ++ last ∷ [])).staged }
@@ -144,7 +144,7 @@ module _ (front : List Saved) (last : Saved) (locals : List Local) (i : ℕ) (l 
       ∙ (ap (λ x. record { frames = record { locals = x; height = last.height; arrays_before = last.arrays_before } ∷ (frames_from [] new front).frames; staged = drop last.count (frames_from [] new front).staged }) locals_is
       ∙ (ap (λ x. record { frames = record { locals = set (take last.count s) i l; height = last.height; arrays_before = last.arrays_before } ∷ x; staged = drop last.count (frames_from [] new front).staged }) same_front
       ∙ (ap (λ x. record { frames = record { locals = set (take last.count s) i l; height = last.height; arrays_before = last.arrays_before } ∷ (frames_from [] locals front).frames; staged = x }) rest_is
-      ∙ ap (λ (v : FramesView). record { frames = with_newest_of (set (newest_of v.frames) i l) v.frames; staged = v.staged }) (sym old))))
+      ∙ ap (λ (v : ActiveView). record { frames = with_newest_of (set (newest_of v.frames) i l) v.frames; staged = v.staged }) (sym old))))
 
 -- what the code reads and writes, by the places where the newest call begins and ends
 module _ (saved : List Saved) (locals : List Local) (base top : ℕ) where
@@ -243,7 +243,7 @@ module _ (front : List Saved) (x : Saved) (locals : List Local) (base top : ℕ)
   left =
       frames-take [] locals front base (omega (arith, base-left)) room-left
       ∙ (ap (λ l. record { frames = (frames_from [] locals front).frames; staged = l }) (drop_all (total_count front) (take base locals) (omega (arith, length-take base locals, base-left)))
-      ∙ ap (λ (v : FramesView). record { frames = older_of v.frames; staged = [] }) (sym (frames-snoc [] locals front x)))
+      ∙ ap (λ (v : ActiveView). record { frames = older_of v.frames; staged = [] }) (sym (frames-snoc [] locals front x)))
 
   pub count-left : newest_count front ≤ base
   count-left = omega (arith, base-left, counts front)
@@ -302,12 +302,6 @@ last-count es hs e same at =
     let n = newest_saved es hs e same at in
     sym (ap newest_count n.is ∙ newest-snoc n.older (record { count = e.count; height = n.height; arrays_before = e.arrays_before }))
 
-pub last-arrays : (es : List Entry) (hs : List ℕ) (locals : List Local) (e : Entry) → length es ≡ length hs → Some e ≡ slice_get es (length es - 1) → Some e.arrays_before ≡ arrays_before_of (frames_from [] locals (saved_of es hs)).frames
-last-arrays es hs locals e same at =
-    let n = newest_saved es hs e same at in
-    let x : Saved = record { count = e.count; height = n.height; arrays_before = e.arrays_before } in
-    sym (ap (λ l. arrays_before_of (frames_from [] locals l).frames) n.is ∙ ap (λ (v : FramesView). arrays_before_of v.frames) (frames-snoc [] locals n.older x))
-
 -- where no entry stands, no call is active
 
 none-stands : (es : List Entry) → None ≡ slice_get es (length es - 1) → es ≡ []
@@ -321,8 +315,20 @@ none-stands (e ∷ es) none =
 pub no-newest : (es : List Entry) (hs : List ℕ) → None ≡ slice_get es (length es - 1) → 0 ≡ newest_count (saved_of es hs)
 no-newest es hs none = ap (λ l. newest_count (saved_of l hs)) (sym (none-stands es none))
 
-pub no-arrays : (es : List Entry) (hs : List ℕ) (locals : List Local) → None ≡ slice_get es (length es - 1) → None ≡ arrays_before_of (frames_from [] locals (saved_of es hs)).frames
-no-arrays es hs locals none = ap (λ l. arrays_before_of (frames_from [] locals (saved_of l hs)).frames) (sym (none-stands es none))
+pub none-long : {A : Type 0} (xs : List A) → length xs ≡ 0 → xs ≡ []
+none-long [] e = refl
+none-long (x ∷ xs) e = absurd (omega (arith, e))
+
+pub no-frames : (es : List Entry) (hs : List ℕ) (locals : List Local) → es ≡ [] → (frames_from [] locals (saved_of es hs)).frames ≡ []
+no-frames es hs locals none = ap (λ l. (frames_from [] locals (saved_of l hs)).frames) none
+
+pub no-callers : (es : List Entry) → es ≡ [] → callers_in es ≡ []
+no-callers es none = ap callers_in none
+
+-- the callers
+
+pub callers-more : (es : List Entry) (e : Entry) → callers_in (es ++ e ∷ []) ≡ e.caller ∷ callers_in es
+callers-more es e = ap reverse (map-append (λ (x : Entry). x.caller) es (e ∷ [])) ∙ reverse-append (map (λ (x : Entry). x.caller) es) (e.caller ∷ [])
 
 -- one call more is kept
 module _ (es : List Entry) (hs : List ℕ) (locals : List Local) (base top : ℕ) (kept : AreKept (saved_of es hs) locals base top) (same : length es ≡ length hs) (e : Entry) (height : ℕ) (count : e.count ≡ length locals - top) {es' : List Entry} {hs' : List ℕ}
@@ -347,20 +353,29 @@ module _ (es : List Entry) (hs : List ℕ) (front : List Entry) (e : Entry) (loc
   still : AreKept (older ++ gone ∷ []) locals base top
   still = subst (λ (l : List Saved). AreKept l locals base top) (saved-left es hs front e same is).1 kept
 
-  pub left-count : e.count ≤ top
-  left-count = omega (arith, still.end, count-snoc older gone)
-
-  pub left-top : top - e.count ≡ base
-  left-top = omega (arith, still.end, count-snoc older gone, base-left older gone locals base top still)
-
   pub left-room : base ≤ length locals
   left-room = room-left older gone locals base top still
 
   pub left-newest : newest_count older ≤ base
   left-newest = count-left older gone locals base top still
 
-  pub left-kept : AreKept older (take base locals) (base - newest_count older) (top - e.count)
-  left-kept = subst (λ n. AreKept older (take base locals) (base - newest_count older) n) (sym left-top) (kept-left older gone locals base top still)
+  pub left-kept : AreKept older (take base locals) (base - newest_count older) base
+  left-kept = kept-left older gone locals base top still
 
   pub left-frames : frames_from [] (take base locals) older ≡ record { frames = older_of (frames_from [] locals (saved_of es hs)).frames; staged = [] }
   left-frames = left older gone locals base top still ∙ ap (λ (l : List Saved). record { frames = older_of (frames_from [] locals l).frames; staged = [] }) (sym (saved-left es hs front e same is).1)
+
+  newest-left : (frames_from [] locals (saved_of es hs)).frames ≡ frame_of gone (frames_from [] locals older).staged ∷ (frames_from [] locals older).frames
+  newest-left = ap (λ (l : List Saved). (frames_from [] locals l).frames) (saved-left es hs front e same is).1 ∙ ap (λ (v : ActiveView). v.frames) (frames-snoc [] locals older gone)
+
+  pub left-arrays : Some e.arrays_before ≡ arrays_before_of (frames_from [] locals (saved_of es hs)).frames
+  left-arrays = sym (ap arrays_before_of newest-left)
+
+  callers-were : callers_in es ≡ e.caller ∷ callers_in front
+  callers-were = ap callers_in is ∙ callers-more front e
+
+  pub left-caller : Some e.caller ≡ slice_get (callers_in es) 0
+  left-caller = sym (ap (λ l. slice_get l 0) callers-were)
+
+  pub left-callers : callers_in front ≡ drop 1 (callers_in es)
+  left-callers = sym (ap (drop 1) callers-were)

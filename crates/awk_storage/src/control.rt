@@ -101,6 +101,13 @@ impl Control {
         self.entries.pop()
     }
 
+    /// The entries, the newest last.
+    pub fn entries(&self) -> &[Entry]
+        ensures { result.now ≡ self.now.entries }
+    {
+        self.entries.as_slice()
+    }
+
     /// The topmost entry, if there is one.
     #[inline(always)]
     pub fn newest(&self) -> Option<&Entry>

@@ -1,13 +1,13 @@
 // The parameters of the active calls.
 
-ghost use Rattle.std.specs.Prelude.{◌≡◌, ℕ, ◌+◌, ◌<◌, ◌≤◌, true, false, [], ◌∷◌, ◌++◌, length, take, slice_get, OnOk, OnErr};
-ghost use Rattle.std.specs.Option.{option_copied};
+ghost use Rattle.std.specs.Prelude.{◌≡◌, ℕ, ◌+◌, ◌<◌, ◌≤◌, true, false, [], ◌∷◌, ◌++◌, length, take, drop, slice_get, OnOk, OnErr, OnSome, IfNone};
+ghost use Rattle.std.specs.Option.{option_copied, option_map};
 ghost use Rattle.awk_storage.specs.Control.{highest_sum};
 ghost use Rattle.awk_storage.specs.support.Entered.{AreEntered};
 ghost use Rattle.awk_storage.specs.support.Frames.{saved_of, newest_count, given};
 
 use crate::control::Control;
-use crate::entry::Entry;
+use crate::entry::{Caller, Entry};
 use crate::room;
 use awk_semantics::Local;
 use awk_value::Value;
@@ -29,11 +29,11 @@ pub struct Frames {
 impl Model for Frames {
     ghost use Rattle.std.specs.Prelude.{[]};
     ghost use Rattle.awk_storage.specs.support.Entered.{AreEntered};
-    ghost use Rattle.awk_storage.specs.support.Frames.{FramesView, saved_of, frames_from, AreKept};
+    ghost use Rattle.awk_storage.specs.support.Frames.{FramesView, saved_of, frames_from, callers_in, with_callers, AreKept};
 
     ghost Value = { FramesView };
 
-    ghost view = { λ f. frames_from [] f.locals.items (saved_of f.control.entries f.control.heights) };
+    ghost view = { λ f. with_callers (callers_in f.control.entries) (frames_from [] f.locals.items (saved_of f.control.entries f.control.heights)) };
 
     ghost invariant = { λ f. AreKept (saved_of f.control.entries f.control.heights) f.locals.items f.base f.top × AreEntered f.control };
 }
@@ -74,11 +74,11 @@ fn cut(locals: &mut Vec<Local>, count: usize)
 }
 
 impl Frames {
-    ghost use Rattle.awk_storage.specs.support.Frames.{FrameView, newest_of, older_of, heights_of, arrays_before_of, with_value_at};
+    ghost use Rattle.awk_storage.specs.support.Frames.{FrameView, callers_in, newest_of, older_of, heights_of, arrays_before_of, with_value_at};
 
     /// No call is active. Takes no memory.
     pub fn new(alloc: Global) -> Frames
-        ensures { result ≡ record { frames = []; staged = [] } }
+        ensures { result ≡ record { frames = []; staged = []; callers = [] } }
     {
         Frames {
             locals: Vec::new(alloc),
@@ -127,12 +127,18 @@ impl Frames {
 
     /// A call of a body of this height is active: its parameters are what it was given. An `Err` changes nothing.
     #[inline(always)]
-    pub fn enter(&mut self, height: u64, arrays_before: usize) -> Result<(), AllocError>
+    pub fn enter(
+        &mut self,
+        height: u64,
+        arrays_before: usize,
+        caller: Caller,
+    ) -> Result<(), AllocError>
         requires high { 0 < height }
         requires low { heights_of self.old.frames + height ≤ highest_sum }
         ensures entered { OnOk result (self.new ≡ record {
           frames = record { locals = self.old.staged; height = height; arrays_before = arrays_before } ∷ self.old.frames;
           staged = [];
+          callers = caller ∷ self.old.callers;
         }) }
         ensures unchanged { OnErr result (self.new ≡ self.old) }
     {
@@ -140,6 +146,7 @@ impl Frames {
         let entry = Entry {
             count: end - self.top,
             arrays_before,
+            caller,
         };
         self.control.enter(height)?;
         match self.control.push(entry) {
@@ -155,24 +162,26 @@ impl Frames {
         }
     }
 
-    /// The newest call is over, and what was given to one that was not made.
+    /// The newest call is over, and what was given to one that was not made. Gives what was kept of the call. Nothing changes
+    /// where no call is active.
     #[inline(always)]
-    pub fn leave(&mut self)
-        ensures { self.new ≡ record { frames = older_of self.old.frames; staged = [] } }
+    pub fn leave(&mut self) -> Option<Entry>
+        ensures left { OnSome result (self.new ≡ record { frames = older_of self.old.frames; staged = []; callers = drop 1 self.old.callers }) }
+        ensures kept { IfNone result (self.new ≡ self.old) }
+        ensures arrays { option_map (λ entry. entry.arrays_before) result ≡ arrays_before_of self.old.frames }
+        ensures caller { option_map (λ entry. entry.caller) result ≡ slice_get self.old.callers 0 }
     {
-        let Some(entry) = self.control.pop() else {
-            self.locals.clear();
-            return;
-        };
+        let entry = self.control.pop()?;
         self.control.leave();
-        self.top -= entry.count;
-        cut(&mut self.locals, self.base);
+        self.top = self.base;
         self.base -= newest_count(&self.control);
+        cut(&mut self.locals, self.top);
+        Some(entry)
     }
 
     /// All calls are over.
     pub fn clear(&mut self)
-        ensures { self.new ≡ record { frames = []; staged = [] } }
+        ensures { self.new ≡ record { frames = []; staged = []; callers = [] } }
     {
         self.locals.clear();
         self.control.clear();
@@ -180,14 +189,20 @@ impl Frames {
         self.top = 0;
     }
 
-    /// How many arrays there were before the newest call, if there is one.
-    pub fn arrays_before(&self) -> Option<usize>
-        ensures { result ≡ arrays_before_of self.now.frames }
+    /// What is kept of the active calls, the newest last.
+    pub fn entries(&self) -> &[Entry]
+        ensures { callers_in result.now ≡ self.now.callers }
     {
-        match self.control.newest() {
-            Some(newest) => Some(newest.arrays_before),
-            None => None,
-        }
+        self.control.entries()
+    }
+
+    /// Whether no call is active.
+    #[inline(always)]
+    pub fn are_over(&self) -> bool
+        ensures frames { result ≡ true → self.now.frames ≡ [] }
+        ensures callers { result ≡ true → self.now.callers ≡ [] }
+    {
+        self.control.len() == 0
     }
 
     /// A parameter of the newest call.

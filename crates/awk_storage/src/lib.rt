@@ -13,7 +13,7 @@ mod variables;
 
 pub use arrays::Arrays;
 pub use control::{Control, FIRST_BOUND, HIGHEST_SUM};
-pub use entry::Entry;
+pub use entry::{Caller, Entry};
 pub use frames::Frames;
 pub use position::{Array, Place, Variable};
 pub use subscript::Subscript;

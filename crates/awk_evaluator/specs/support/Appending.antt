@@ -39,7 +39,7 @@ pub record AppendsBytes (a : Array) (k : Key) (text : List ℕ) (m m' : Machine)
   pub key : Value
   pub at_hand : IsKeyAtHand k key m
   pub operands : m'.operands ≡ m.operands
-  pub calls : m'.calls ≡ m.calls
+  pub calls : m'.runtime.frames.callers ≡ m.runtime.frames.callers
   pub appends : AppendsIn (place.Element a) key text m.runtime m'.runtime
 
 -- operands are read, which changes nothing, and their texts stand behind what was there

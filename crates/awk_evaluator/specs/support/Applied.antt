@@ -39,7 +39,7 @@ IsOfNumbers o = (x y : Value) (m n : ℤ) → num_of x ≡ Ok m → num_of y ≡
 -- nothing is changed that the definitions know
 pub record StaysAlike (m m' : Machine) : Type 0 where
   pub operands : m'.operands ≡ m.operands
-  pub calls : m'.calls ≡ m.calls
+  pub calls : m'.runtime.frames.callers ≡ m.runtime.frames.callers
   pub runtime : SameState m.runtime m'.runtime
 
 -- positions, as the values that tell them
@@ -53,7 +53,7 @@ position_values p = value.Number p.start ∷ count_values p.count
 -- operands are read, and none is put on the stack
 pub record ReadsAll (list : List Operand) (m : Machine) (r : Result (List Value) Halt) (m' : Machine) : Type 0 where
   pub operands : m'.operands ≡ m.operands
-  pub calls : m'.calls ≡ m.calls
+  pub calls : m'.runtime.frames.callers ≡ m.runtime.frames.callers
   pub changes : Changes (operand_values m.runtime.names.scalars list) m.runtime m'.runtime r
 
 abbrev pub items_in : Result (Vec Value) Halt → Result (List Value) Halt
@@ -64,7 +64,7 @@ items_in (Err h) = Err h
 pub record PutsApplied (f : BuiltIn) (list : List Operand) (count : ℕ) (m m' : Machine) : Type 0 where
   pub value : Value
   pub operands : m'.operands ≡ record m.operands { values = value ∷ drop count m.operands.values }
-  pub calls : m'.calls ≡ m.calls
+  pub calls : m'.runtime.frames.callers ≡ m.runtime.frames.callers
   pub runtime : m'.runtime ≡ m.runtime
   pub arguments : List Value
   pub at : AreAtHand list arguments m

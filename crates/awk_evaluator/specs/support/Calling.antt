@@ -15,7 +15,7 @@ use Rattle.awk_resolve.specs.declared.node.ArgumentForm.TheVariants as form
 use Rattle.awk_storage.specs.support.Frames.{FramesView}
 use Rattle.awk_runtime.specs.declared.runtime.Runtime.{Runtime}
 use Rattle.awk_runtime.specs.Calling.{kept_number}
-use Rattle.awk_runtime.specs.Simulation.{Changes}
+use Rattle.awk_runtime.specs.Simulation.{ChangesCalls}
 use Rattle.awk_evaluator.specs.declared.machine.Machine.{Machine}
 use Rattle.awk_evaluator.specs.support.Moves.{stack_of}
 
@@ -30,13 +30,13 @@ kept_all [] vs calls = []
 kept_all (f ∷ fs) vs calls = kept_by f vs calls ∷ kept_all fs (behind_form f vs) calls
 
 abbrev pub with_all : List Local → Runtime → Runtime
-with_all ls m = record m { frames = record { frames = m.frames.frames; staged = m.frames.staged ++ ls } }
+with_all ls m = record m { frames = record m.frames { staged = m.frames.staged ++ ls } }
 
 -- the call that is about to be made is given all arguments
 pub record GivesAll (fs : List ArgumentForm) (m : Machine) (r : Result (Unit {0}) Halt) (m' : Machine) : Type 0 where
   pub given : OnOk r (m'.runtime ≡ with_all (kept_all fs (taken (values_among fs) m.operands.values) m.runtime.frames) m.runtime)
   pub operands : OnOk r (m'.operands ≡ record m.operands { values = drop (values_among fs) m.operands.values })
-  pub calls : OnOk r (m'.calls ≡ m.calls)
+  pub calls : OnOk r (m'.runtime.frames.callers ≡ m.runtime.frames.callers)
   pub names : m'.runtime.names ≡ m.runtime.names
   pub steps : m'.runtime.steps ≤ m.runtime.steps
   pub streams : m'.runtime.streams ≡ m.runtime.streams
@@ -61,4 +61,4 @@ pub record BeginsCall (f : Function) (fs : List ArgumentForm) (next : ℕ) (m : 
   pub names : m'.runtime.names ≡ m.runtime.names
   pub steps : m'.runtime.steps ≤ m.runtime.steps
   pub streams : m'.runtime.streams ≡ m.runtime.streams
-  pub changes : (parameters : List FormalParameter) → map (λ (p : FormalParameter). p.is_array) parameters ≡ f.arrays.items → Changes (begin_call parameters f.height fs m) m.runtime m'.runtime (entered r)
+  pub changes : (parameters : List FormalParameter) → map (λ (p : FormalParameter). p.is_array) parameters ≡ f.arrays.items → ChangesCalls (begin_call parameters f.height fs m) m.runtime m'.runtime (entered r)

@@ -52,14 +52,14 @@ pub record PutsContains (a : Array) (key : Value) (m m' : Machine) : Type 0 wher
 pub record GivesElement (o : Option Operator) (a : Array) (key w : Value) (m m' : Machine) : Type 0 where
   pub gives : Gives (assign_by_at m.runtime.names.scalars o (place.Element a) key w) m.runtime (Ok tt) m'.runtime
   pub operands : m'.operands ≡ m.operands
-  pub calls : m'.calls ≡ m.calls
+  pub calls : m'.runtime.frames.callers ≡ m.runtime.frames.callers
 
 -- its number is raised or lowered by 1, and was the one that is answered
 pub record RaisesElement (o : IncrementOperator) (a : Array) (key : Value) (m : Machine) (answer : Option ℤ) (m' : Machine) : Type 0 where
   pub raises : IfSome answer (λ n. Changes (post_increment_at m.runtime.names.scalars o (place.Element a) key) m.runtime m'.runtime (Ok (value.Number n)))
   pub keeps : IfNone answer (m' ≡ m)
   pub operands : m'.operands ≡ m.operands
-  pub calls : m'.calls ≡ m.calls
+  pub calls : m'.runtime.frames.callers ≡ m.runtime.frames.callers
 
 -- the same at a key that is at hand
 pub record RaisesAtKey (o : IncrementOperator) (a : Array) (k : Key) (m : Machine) (n : ℤ) (m' : Machine) : Type 0 where
@@ -67,7 +67,7 @@ pub record RaisesAtKey (o : IncrementOperator) (a : Array) (k : Key) (m : Machin
   pub at_hand : IsKeyAtHand k key m
   pub raises : Changes (post_increment_at m.runtime.names.scalars o (place.Element a) key) m.runtime m'.runtime (Ok (value.Number n))
   pub operands : m'.operands ≡ m.operands
-  pub calls : m'.calls ≡ m.calls
+  pub calls : m'.runtime.frames.callers ≡ m.runtime.frames.callers
 
 -- its text gets bytes behind it
 pub record AppendsElement (a : Array) (key : Value) (text : List ℕ) (m : Machine) (answer : Result Bool Halt) (m' : Machine) : Type 0 where
@@ -75,4 +75,3 @@ pub record AppendsElement (a : Array) (key : Value) (text : List ℕ) (m : Machi
   pub keeps : answer ≡ Ok false → m' ≡ m
   pub refused : IfErr answer (λ halt. (run : Run Value) → Changes run m.runtime m'.runtime (Err halt))
   pub operands : m'.operands ≡ m.operands
-  pub calls : m'.calls ≡ m.calls

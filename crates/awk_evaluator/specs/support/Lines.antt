@@ -31,5 +31,5 @@ AppendsBehind = AppendsBy (λ between texts. join_rest between texts)
 -- nothing is changed that the definitions know
 pub record SameMachine (m m' : Machine) : Type 0 where
   pub operands : m'.operands ≡ m.operands
-  pub calls : m'.calls ≡ m.calls
+  pub calls : m'.runtime.frames.callers ≡ m.runtime.frames.callers
   pub runtime : SameState m.runtime m'.runtime

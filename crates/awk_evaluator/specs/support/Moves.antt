@@ -1,5 +1,5 @@
 -- Where the moves of the machine lead.
-use Rattle.std.specs.Prelude.{◌≡◌, ◌≢◌, ◌≤◌, ◌<◌, if◌then◌else◌, ℕ, Bool, true, false, Option, Some, None, List, [], ◌∷◌, drop, reverse, length, Result, Ok, Err, OnOk}
+use Rattle.std.specs.Prelude.{◌≡◌, ◌≢◌, ◌≤◌, ◌<◌, if◌then◌else◌, ℕ, Bool, true, false, Option, Some, None, List, [], ◌∷◌, drop, length, Result, Ok, Err, OnOk}
 use Rattle.std.specs.Global.{Vec}
 use Rattle.awk_value.specs.declared.value.Value.{Value}
 use Rattle.awk_value.specs.Values.{truth_of}
@@ -21,25 +21,25 @@ use Rattle.awk_resolve.specs.declared.node.EffectNode.{EffectNode}
 use Rattle.awk_resolve.specs.declared.plan.Plan.{Plan}
 use Rattle.awk_resolve.specs.Nodes.{Tables, first, value_of, popped, effect_of, dropped, cont_at}
 use Rattle.awk_runtime.specs.declared.runtime.Runtime.{Runtime}
-use Rattle.awk_runtime.specs.support.Simulation.{Simulates, Changes}
-use Rattle.awk_evaluator.specs.declared.entry.Entry.{Entry as CodeEntry}
+use Rattle.awk_runtime.specs.support.Simulation.{Simulates, Changes, ChangesCalls}
+use Rattle.awk_storage.specs.declared.entry.Caller.{Caller}
 use Rattle.awk_evaluator.specs.declared.machine.Machine.{Machine}
 use Rattle.awk_evaluator.specs.declared.machine.Move.{Move}
 use Rattle.awk_evaluator.specs.declared.machine.Move.TheVariants as move
 use Rattle.awk_evaluator.specs.support.Operands.{OperandsView}
 use Rattle.awk_evaluator.specs.support.Rest.{PlanStands, tables_in, Entry, seen, Start, AtPlace, IsBefore, Rest}
 
--- the callers' entries, the newest first
-abbrev pub seen_of : OperandsView → List CodeEntry → List Entry
-seen_of o calls = seen o.below (reverse calls)
+-- the entries of the callers, of which the newest one is the first
+abbrev pub seen_of : OperandsView → List Caller → List Entry
+seen_of o callers = seen o.below callers
 
 abbrev pub stack_of : Machine → List Entry
-stack_of m = seen_of m.operands m.calls
+stack_of m = seen_of m.operands m.runtime.frames.callers
 
 -- no call is active, and nothing is awaited
 pub record IsIdle (m : Machine) : Type 0 where
   pub operands : m.operands ≡ record { values = []; below = [] }
-  pub calls : m.calls ≡ []
+  pub calls : m.runtime.frames.callers ≡ []
 
 -- the rest of a run from this start of a machine leads to this end, whatever the tables that its names are for
 abbrev pub RestOf : Tables → List Definition → Plan → Type 0 → Start → Machine → WorldState → Runtime → WorldState → Result Value Halt → Type 0
@@ -60,14 +60,14 @@ pub record Ends (is_logged : Type 0) (plan : Plan) (at : Start) (m : Machine) (k
 
 -- nothing is left, and the topmost operand is the last value
 pub record Finishes (is_logged : Type 0) (plan : Plan) (at : Start) (m : Machine) (k : WorldState) (m' : Machine) (k' : WorldState) : Type 0 where
-  pub calls : m'.calls ≡ []
+  pub calls : m'.runtime.frames.callers ≡ []
   pub ends : (tables : Tables) (ds : List Definition) → PlanStands (tables_in m.runtime.names tables) ds plan → RestOf (tables_in m.runtime.names tables) ds plan is_logged at m k m'.runtime k' (Ok (first m'.operands.values))
 
 -- to a place that stands before this one
 pub record Onward (is_logged : Type 0) (plan : Plan) (at : Start) (m : Machine) (k : WorldState) (at' : ℕ) (m' : Machine) (k' : WorldState) : Type 0 where
   pub leads : Leads is_logged plan at m k at' m' k'
   pub less : IsBefore at at'
-  pub calls : m'.calls ≡ m.calls
+  pub calls : m'.runtime.frames.callers ≡ m.runtime.frames.callers
 
 -- behind a step that was spent
 pub record Upward (is_logged : Type 0) (plan : Plan) (at : Start) (m : Machine) (k : WorldState) (at' : ℕ) (m' : Machine) (k' : WorldState) : Type 0 where
@@ -77,7 +77,7 @@ pub record Upward (is_logged : Type 0) (plan : Plan) (at : Start) (m : Machine) 
 -- behind a call
 pub record Backward (is_logged : Type 0) (plan : Plan) (at : Start) (m : Machine) (k : WorldState) (at' : ℕ) (m' : Machine) (k' : WorldState) : Type 0 where
   pub leads : Leads is_logged plan at m k at' m' k'
-  pub less : length m'.calls < length m.calls
+  pub less : length m'.runtime.frames.callers < length m.runtime.frames.callers
 
 abbrev pub MovesBy : Type 0 → Plan → Start → Machine → WorldState → Move → Machine → WorldState → Type 0
 MovesBy is_logged plan at m k (move.On i) m' k' = Onward is_logged plan at m k i m' k'
@@ -112,7 +112,7 @@ pub record Steps (is_logged : Type 0) (plan : Plan) (at : Start) (m : Machine) (
 -- nothing is changed but why the machine is halted
 pub record Keeps (m m' : Machine) : Type 0 where
   pub operands : m'.operands ≡ m.operands
-  pub calls : m'.calls ≡ m.calls
+  pub calls : m'.runtime.frames.callers ≡ m.runtime.frames.callers
   pub runtime : m'.runtime ≡ m.runtime
 
 -- what a part came to, where the machine keeps why one that isn't done ended
@@ -176,7 +176,7 @@ PutsFoundBy w next m to m' = ⊥
 
 pub record PutsFound (w : Value) (next : ℕ) (m : Machine) (to : Move) (m' : Machine) : Type 0 where
   pub puts : PutsFoundBy w next m to m'
-  pub calls : m'.calls ≡ m.calls
+  pub calls : m'.runtime.frames.callers ≡ m.runtime.frames.callers
   pub runtime : m'.runtime ≡ m.runtime
 
 -- a node that is no call
@@ -186,34 +186,34 @@ IsStrict x = ((f : ℕ) (fs : Vec ArgumentForm) → x ≢ v.Call f fs) × ((e : 
 -- the value of a node is found: what it takes is taken off the stack
 pub record Evaluates (is_logged : Type 0) (x : ValueNode) (m : Machine) (k : WorldState) (r : Result Value Halt) (m' : Machine) (k' : WorldState) : Type 0 where
   pub operands : OnOk r (m'.operands ≡ record m.operands { values = drop (popped x) m.operands.values })
-  pub calls : OnOk r (m'.calls ≡ m.calls)
+  pub calls : OnOk r (m'.runtime.frames.callers ≡ m.runtime.frames.callers)
   pub simulates : (tables : Tables) (functions : Functions) → Simulates is_logged m.runtime k m'.runtime k' r (value_of (tables_in m.runtime.names tables) functions x m.operands.values)
 
 -- the same without the world
 pub record Computes (x : ValueNode) (m : Machine) (r : Result Value Halt) (m' : Machine) : Type 0 where
   pub operands : OnOk r (m'.operands ≡ record m.operands { values = drop (popped x) m.operands.values })
-  pub calls : OnOk r (m'.calls ≡ m.calls)
+  pub calls : OnOk r (m'.runtime.frames.callers ≡ m.runtime.frames.callers)
   pub changes : (tables : Tables) (functions : Functions) → Changes (value_of (tables_in m.runtime.names tables) functions x m.operands.values) m.runtime m'.runtime r
 
 -- what a node does is done
 pub record Performs (is_logged : Type 0) (x : EffectNode) (m : Machine) (k : WorldState) (r : Result (Unit {0}) Halt) (m' : Machine) (k' : WorldState) : Type 0 where
   pub operands : OnOk r (m'.operands ≡ record m.operands { values = drop (dropped x) m.operands.values })
-  pub calls : OnOk r (m'.calls ≡ m.calls)
+  pub calls : OnOk r (m'.runtime.frames.callers ≡ m.runtime.frames.callers)
   pub simulates : (functions : Functions) → Simulates is_logged m.runtime k m'.runtime k' r (effect_of functions x m.operands.values)
 
 -- the same without the world
 pub record Acts (x : EffectNode) (m : Machine) (r : Result (Unit {0}) Halt) (m' : Machine) : Type 0 where
   pub operands : OnOk r (m'.operands ≡ record m.operands { values = drop (dropped x) m.operands.values })
-  pub calls : OnOk r (m'.calls ≡ m.calls)
+  pub calls : OnOk r (m'.runtime.frames.callers ≡ m.runtime.frames.callers)
   pub changes : (functions : Functions) → Changes (effect_of functions x m.operands.values) m.runtime m'.runtime r
 
 -- a value is returned to the newest entry, or is the last one
 abbrev pub GivesBackBy : Value → Machine → Move → Machine → Type 0
 GivesBackBy v m (move.On i) m' = ⊥
 GivesBackBy v m (move.Up i) m' = ⊥
-GivesBackBy v m (move.Back i) m' = (vs : List Value) × (stack_of m ≡ record { next = i; values = vs } ∷ stack_of m') × (m'.operands.values ≡ v ∷ vs) × Changes leave m.runtime m'.runtime (Ok tt) × (length m'.calls < length m.calls)
-GivesBackBy v m move.Over m' = (first m'.operands.values ≡ v) × (m.calls ≡ []) × (m'.calls ≡ []) × (m'.runtime ≡ m.runtime)
-GivesBackBy v m move.Halted m' = (e : Entry) × (es : List Entry) × (stack_of m ≡ e ∷ es) × Changes leave m.runtime m'.runtime (Ok tt) × (m'.halt ≡ halt.Fault OutOfMemory)
+GivesBackBy v m (move.Back i) m' = (vs : List Value) × (stack_of m ≡ record { next = i; values = vs } ∷ stack_of m') × (m'.operands.values ≡ v ∷ vs) × ChangesCalls leave m.runtime m'.runtime (Ok tt) × (length m'.runtime.frames.callers < length m.runtime.frames.callers)
+GivesBackBy v m move.Over m' = (first m'.operands.values ≡ v) × (m.runtime.frames.callers ≡ []) × (m'.runtime.frames.callers ≡ []) × (m'.runtime ≡ m.runtime)
+GivesBackBy v m move.Halted m' = (e : Entry) × (es : List Entry) × (stack_of m ≡ e ∷ es) × ChangesCalls leave m.runtime m'.runtime (Ok tt) × (m'.halt ≡ halt.Fault OutOfMemory)
 
 pub record GivesBack (v : Value) (m : Machine) (to : Move) (m' : Machine) : Type 0 where
   pub gives : GivesBackBy v m to m'

@@ -36,19 +36,19 @@ pub record IsFieldOf (a : Operand) (n : ℤ) (m : Machine) : Type 0 where
 pub record Puts (x : ValueNode) (m m' : Machine) : Type 0 where
   pub value : Value
   pub operands : m'.operands ≡ record m.operands { values = value ∷ drop (popped x) m.operands.values }
-  pub calls : m'.calls ≡ m.calls
+  pub calls : m'.runtime.frames.callers ≡ m.runtime.frames.callers
   pub changes : (tables : Tables) (functions : Functions) → Changes (value_of (tables_in m.runtime.names tables) functions x m.operands.values) m.runtime m'.runtime (Ok value)
 
 -- a value is put on the stack
 pub record Pushed (v : Value) (m m' : Machine) : Type 0 where
   pub operands : m'.operands ≡ record m.operands { values = v ∷ m.operands.values }
-  pub calls : m'.calls ≡ m.calls
+  pub calls : m'.runtime.frames.callers ≡ m.runtime.frames.callers
   pub runtime : m'.runtime ≡ m.runtime
 
 -- the topmost value is taken off
 pub record Popped (m m' : Machine) : Type 0 where
   pub operands : m'.operands ≡ record m.operands { values = drop 1 m.operands.values }
-  pub calls : m'.calls ≡ m.calls
+  pub calls : m'.runtime.frames.callers ≡ m.runtime.frames.callers
   pub runtime : m'.runtime ≡ m.runtime
 
 -- whether two operands are so related

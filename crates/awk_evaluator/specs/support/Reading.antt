@@ -27,13 +27,13 @@ use Rattle.awk_evaluator.specs.support.Moves.{Computes, told, toward}
 -- what takes no value off the stack, and puts none on it
 pub record Runs (run : Run Value) (m : Machine) (r : Result Value Halt) (m' : Machine) : Type 0 where
   pub operands : m'.operands ≡ m.operands
-  pub calls : m'.calls ≡ m.calls
+  pub calls : m'.runtime.frames.callers ≡ m.runtime.frames.callers
   pub changes : Changes run m.runtime m'.runtime r
 
 -- what takes no value off the stack, and leaves none on it unless it ends
 pub record Leaves (run : Run Value) (m : Machine) (r : Result Value Halt) (m' : Machine) : Type 0 where
   pub operands : OnOk r (m'.operands ≡ m.operands)
-  pub calls : OnOk r (m'.calls ≡ m.calls)
+  pub calls : OnOk r (m'.runtime.frames.callers ≡ m.runtime.frames.callers)
   pub changes : Changes run m.runtime m'.runtime r
 
 abbrev pub ReadsOperand : Operand → Machine → Result Value Halt → Machine → Type 0
@@ -90,7 +90,7 @@ Raises o t m r m' = Leaves (raise_target m.runtime.names.scalars o t) m r m'
 -- a variable gets its text with those of so many values behind it, which are taken off the stack
 pub record Appends (x : Variable) (count : ℕ) (m : Machine) (r : Result Value Halt) (m' : Machine) : Type 0 where
   pub operands : OnOk r (m'.operands ≡ record m.operands { values = drop count m.operands.values })
-  pub calls : OnOk r (m'.calls ≡ m.calls)
+  pub calls : OnOk r (m'.runtime.frames.callers ≡ m.runtime.frames.callers)
   pub changes : Changes (append_to m.runtime.names.scalars x (taken count m.operands.values)) m.runtime m'.runtime r
 
 -- operands are read in their order, and their values are put on the stack; behind an `Err` some may lie there
@@ -98,7 +98,7 @@ pub record Appends (x : Variable) (count : ℕ) (m : Machine) (r : Result Value 
 pub record PutsValues (list : List Operand) (ws : List Value) (m m' : Machine) : Type 0 where
   pub count : length ws ≡ length list
   pub operands : m'.operands ≡ record m.operands { values = reverse ws ++ m.operands.values }
-  pub calls : m'.calls ≡ m.calls
+  pub calls : m'.runtime.frames.callers ≡ m.runtime.frames.callers
   pub changes : Changes (operand_values m.runtime.names.scalars list) m.runtime m'.runtime (Ok ws)
 
 abbrev pub PutsOperandsBy : List Operand → Machine → Result (Unit {0}) Halt → Machine → Type 0
@@ -111,5 +111,5 @@ pub record PutsOperands (list : List Operand) (m : Machine) (r : Result (Unit {0
 -- operands are printed as a line
 pub record PrintsOperands (is_logged : Type 0) (list : List Operand) (m : Machine) (k : WorldState) (r : Result (Unit {0}) Halt) (m' : Machine) (k' : WorldState) : Type 0 where
   pub operands : OnOk r (m'.operands ≡ m.operands)
-  pub calls : OnOk r (m'.calls ≡ m.calls)
+  pub calls : OnOk r (m'.runtime.frames.callers ≡ m.runtime.frames.callers)
   pub simulates : Simulates is_logged m.runtime k m'.runtime k' r (print_operands m.runtime.names.scalars list)

@@ -18,7 +18,7 @@ use Rattle.awk_resolve.specs.Plans.{array_parameters}
 use Rattle.awk_runtime.specs.support.Naming.{Naming}
 use Rattle.awk_runtime.specs.declared.runtime.Runtime.{Runtime}
 use Rattle.awk_runtime.specs.support.Simulation.{Simulates}
-use Rattle.awk_evaluator.specs.declared.entry.Entry.{Entry as CodeEntry}
+use Rattle.awk_storage.specs.declared.entry.Caller.{Caller}
 
 -- what the evaluator needs of a plan's lists
 pub record IsSound (plan : Plan) : Type 0 where
@@ -51,7 +51,7 @@ pub record Entry : Type 0 where
   pub values : List Value
 
 -- the entries of the callers, the newest first, of what lies below the newest call's operands
-abbrev pub seen : List Value → List CodeEntry → List Entry
+abbrev pub seen : List Value → List Caller → List Entry
 seen below [] = []
 seen below (e ∷ es) = record { next = e.next; values = reverse (drop e.base below) } ∷ seen (take e.base below) es
 

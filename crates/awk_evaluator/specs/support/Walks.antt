@@ -17,7 +17,7 @@ laid keys o = record { values = map (λ key. value.Text key) keys ++ o.values; b
 
 -- the keys of an array are put on the stack, or that ends; want of memory may come behind them
 abbrev pub PutsKeysBy : Array → Machine → Result (Unit {0}) Halt → Machine → Type 0
-PutsKeysBy a m (Ok u) m' = (keys : List (List ℕ)) × Changes (keys_of_array a) m.runtime m'.runtime (Ok keys) × (m'.operands ≡ record m.operands { values = walk_values keys ++ m.operands.values }) × (m'.calls ≡ m.calls)
+PutsKeysBy a m (Ok u) m' = (keys : List (List ℕ)) × Changes (keys_of_array a) m.runtime m'.runtime (Ok keys) × (m'.operands ≡ record m.operands { values = walk_values keys ++ m.operands.values })
 PutsKeysBy a m (Err h) m' = Changes (keys_of_array a) m.runtime m'.runtime (Err h)
 
 pub record PutsKeys (a : Array) (m : Machine) (r : Result (Unit {0}) Halt) (m' : Machine) : Type 0 where
@@ -27,4 +27,4 @@ pub record PutsKeys (a : Array) (m : Machine) (r : Result (Unit {0}) Halt) (m' :
 pub record TakesKey (x : Variable) (m : Machine) (r : Result (Unit {0}) Halt) (m' : Machine) : Type 0 where
   pub changes : Changes (put_variable m.runtime.names.scalars x (second m.operands.values)) m.runtime m'.runtime r
   pub operands : OnOk r (m'.operands ≡ record m.operands { values = value.Number (pos (keys_left (first m.operands.values) - 1)) ∷ drop 2 m.operands.values })
-  pub calls : OnOk r (m'.calls ≡ m.calls)
+  pub calls : OnOk r (m'.runtime.frames.callers ≡ m.runtime.frames.callers)

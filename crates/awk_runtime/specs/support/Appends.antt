@@ -19,6 +19,7 @@ appended names x left right = lift (Ok (value.Text (str_of left ++ str_of right)
 -- a variable may be let go of before it gets a value
 pub record LetsGo (x : Variable) (old new : Runtime) : Type 0 where
   pub names : new.names ≡ old.names
+  pub callers : new.frames.callers ≡ old.frames.callers
   pub streams : new.streams ≡ old.streams
   pub steps : new.steps ≡ old.steps
   pub puts : (w : Value) {after : Runtime} {r : Result (Unit {0}) Halt} → Changes (put_variable new.names.scalars x w) new after r → Changes (put_variable old.names.scalars x w) old after r

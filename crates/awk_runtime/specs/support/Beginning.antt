@@ -31,7 +31,7 @@ pub record IsStart (naming : Naming) (start : StartValues) (limit : ℕ) (m : Ru
   pub globals : (i : ℕ) → get_or m.globals.items i Nothing ≡ Nothing
   pub slots : length m.globals.items ≡ length naming.scalars
   pub arrays : m.arrays ≡ first_arrays start naming.arrays
-  pub frames : m.frames ≡ record { frames = []; staged = [] }
+  pub frames : m.frames ≡ record { frames = []; staged = []; callers = [] }
   pub streams : m.streams ≡ record { main = None; output = []; error = []; named = [] }
   pub next : m.next ≡ pos 1
   pub input_seen : m.input_seen ≡ false
@@ -46,7 +46,7 @@ pub record IsPutTogether (naming : Naming) (parts : Parts) (limit : ℕ) (m : Ru
   pub specials : m.specials ≡ parts.specials
   pub globals : m.globals ≡ parts.globals
   pub arrays : m.arrays ≡ parts.arrays
-  pub frames : m.frames ≡ record { frames = []; staged = [] }
+  pub frames : m.frames ≡ record { frames = []; staged = []; callers = [] }
   pub streams : m.streams ≡ parts.readers.streams
   pub next : m.next ≡ pos 1
   pub input_seen : m.input_seen ≡ false

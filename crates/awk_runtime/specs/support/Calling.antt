@@ -9,15 +9,16 @@ use Rattle.awk_semantics.specs.declared.halt.Halt.{Halt}
 use Rattle.awk_semantics.specs.declared.local.Local.{Local}
 use Rattle.awk_semantics.specs.declared.local.Local.TheVariants as local
 use Rattle.awk_semantics.specs.State.{State}
-use Rattle.awk_semantics.specs.Primitives.{enter, outside_calls}
+use Rattle.awk_semantics.specs.Primitives.{enter, leave, outside_calls}
 use Rattle.awk_semantics.specs.Results.{IsWantOfMemory}
 use Rattle.awk_kinds.specs.Kinds.{FormalParameter}
 use Rattle.awk_storage.specs.declared.position.Array.{Array}
 use Rattle.awk_storage.specs.declared.position.Array.TheVariants as array
+use Rattle.awk_storage.specs.declared.entry.Caller.{Caller}
 use Rattle.awk_storage.specs.support.Frames.{FramesView, newest_of}
 use Rattle.awk_storage.specs.support.Tables.{array_of}
 use Rattle.awk_runtime.specs.declared.runtime.Runtime.{Runtime}
-use Rattle.awk_runtime.specs.support.Simulation.{OwnRelation, Changes}
+use Rattle.awk_runtime.specs.support.Simulation.{OwnRelation, ChangesCalls}
 
 -- the number of a parameter's array
 abbrev pub number_of_kept : Option Local → ℕ
@@ -41,11 +42,11 @@ argument_text arrays n i = str_of (unwrap_or (value_at (array_of arrays n) (sign
 
 -- the call that is about to be made is given this for its next parameter
 abbrev pub with_given : Local → Runtime → Runtime
-with_given l m = record m { frames = record { frames = m.frames.frames; staged = m.frames.staged ++ l ∷ [] } }
+with_given l m = record m { frames = record m.frames { staged = m.frames.staged ++ l ∷ [] } }
 
 -- it is given nothing
 abbrev pub without_given : Runtime → Runtime
-without_given m = record m { frames = record { frames = m.frames.frames; staged = [] } }
+without_given m = record m { frames = record m.frames { staged = [] } }
 
 -- memory was refused to the code's own part
 pub record Refused (old new : Runtime) : Type 0 where
@@ -69,15 +70,14 @@ missing_arrays (false ∷ kinds) = missing_arrays kinds
 abbrev pub with_missing : (kinds : List Bool) → Runtime → Runtime
 with_missing kinds m = record m {
   arrays = m.arrays ++ missing_arrays kinds;
-  frames = record { frames = m.frames.frames; staged = m.frames.staged ++ missing_locals kinds (length m.arrays) };
+  frames = record m.frames { staged = m.frames.staged ++ missing_locals kinds (length m.arrays) };
 }
 
 -- as many are given as there are parameters
 abbrev pub completed : (kinds : List Bool) → Runtime → Runtime
 completed kinds m = record m {
   arrays = m.arrays ++ missing_arrays (drop (length m.frames.staged) kinds);
-  frames = record {
-    frames = m.frames.frames;
+  frames = record m.frames {
     staged = take (length kinds) m.frames.staged ++ missing_locals (drop (length m.frames.staged) kinds) (length m.arrays);
   };
 }
@@ -88,9 +88,18 @@ pub record Gives (l : Local) (old new : Runtime) (r : Result (Unit {0}) Halt) : 
   pub unchanged : OnErr r (new ≡ old)
   pub memory : IfErr r IsWantOfMemory
 
--- a call is active that was given all this
-pub record EntersCall (kinds : List Bool) (height : ℕ) (old new : Runtime) (r : Result (Unit {0}) Halt) : Type 0 where
-  pub enters : (parameters : List FormalParameter) → map (λ p. p.is_array) parameters ≡ kinds → Changes (enter parameters height old.frames.staged) (without_given old) new r
+-- a call is active that was given all this, and this is its caller
+pub record EntersCall (kinds : List Bool) (height : ℕ) (caller : Caller) (old new : Runtime) (r : Result (Unit {0}) Halt) : Type 0 where
+  pub callers : OnOk r (new.frames.callers ≡ caller ∷ old.frames.callers)
+  pub enters : (parameters : List FormalParameter) → map (λ p. p.is_array) parameters ≡ kinds → ChangesCalls (enter parameters height old.frames.staged) (without_given old) new r
+
+-- the newest call is over, and this is its caller
+abbrev pub LeavesCallBy : Runtime → Option Caller → Runtime → Type 0
+LeavesCallBy old (Some caller) new = (old.frames.callers ≡ caller ∷ new.frames.callers) × ChangesCalls leave old new (Ok tt)
+LeavesCallBy old None new = (old.frames.callers ≡ []) × (new ≡ old)
+
+pub record LeavesCall (old : Runtime) (caller : Option Caller) (new : Runtime) : Type 0 where
+  pub leaves : LeavesCallBy old caller new
 
 -- no call is active any more; what was asked of the outside stays
 pub record EndsCalls (old new : Runtime) : Type 0 where
@@ -98,4 +107,5 @@ pub record EndsCalls (old new : Runtime) : Type 0 where
   pub names : new.names ≡ old.names
   pub streams : new.streams ≡ old.streams
   pub status : new.status ≡ old.status
+  pub callers : new.frames.callers ≡ []
   pub holds : (s : State) → OwnRelation old s → OwnRelation new (outside_calls s)

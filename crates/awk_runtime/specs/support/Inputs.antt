@@ -19,15 +19,18 @@ ClosedUnless (Err h) m = Unit {0}
 -- a record is looked for, and where none is found no main input is left open
 pub record Seeks (is_logged : Type 0) (run : Run (Option (List ℕ))) (old : Runtime) (before : WorldState) (new : Runtime) (after : WorldState) (r : Result (Option (List ℕ)) Halt) : Type 0 where
   pub simulates : Simulates is_logged old before new after r run
+  pub callers : new.frames.callers ≡ old.frames.callers
   pub closed : ClosedUnless r new
 
 -- the elements of ARGV that are left, at any bound above the steps
 pub record SearchesOn (is_logged : Type 0) (old : Runtime) (before : WorldState) (new : Runtime) (after : WorldState) (r : Result (Option (List ℕ)) Halt) : Type 0 where
   pub simulates : (n : ℕ) → old.steps ≤ n → Simulates is_logged old before new after r (search_operands_within (suc n))
+  pub callers : new.frames.callers ≡ old.frames.callers
 
 -- a main input is opened, and then there is one
 pub record OpensMainInput (is_logged : Type 0) (kind : InputKind) (path : List ℕ) (old : Runtime) (before : WorldState) (new : Runtime) (after : WorldState) (r : Result (Unit {0}) Halt) : Type 0 where
   pub simulates : Simulates is_logged old before new after r (open_main kind path)
+  pub callers : new.frames.callers ≡ old.frames.callers
   pub main : OnOk r (is_some new.streams.main ≡ true)
 
 -- a record that is found begins: it is read, a step is spent, and it is made the one at hand, or that fails

@@ -33,6 +33,7 @@ print_field_at functions n = read_field n >>= λ w. print_at functions (ret 0) P
 pub record PrintsTo (is_logged : Type 0) (to : Target) (run : ℕ → Run (Unit {0})) (old : Runtime) (before : WorldState) (new : Runtime) (after : WorldState) (r : Result (Unit {0}) Halt) : Type 0 where
   pub steps : new.steps ≤ old.steps
   pub names : new.names ≡ old.names
+  pub callers : new.frames.callers ≡ old.frames.callers
   pub told : is_logged → (n : ℕ) → opening_at to old.streams before.log ≡ Some n → SimulatesLogged old before new after r (run n)
 
 -- the target is an opening, which the run gives
@@ -49,4 +50,5 @@ TargetTold run old before (Err h) new after = SimulatesLogged old before new aft
 pub record OpensTarget (is_logged : Type 0) (run : Run ℕ) (old : Runtime) (before : WorldState) (new : Runtime) (after : WorldState) (r : Result Target Halt) : Type 0 where
   pub steps : new.steps ≤ old.steps
   pub names : new.names ≡ old.names
+  pub callers : new.frames.callers ≡ old.frames.callers
   pub told : is_logged → TargetTold run old before r new after

@@ -47,7 +47,8 @@ pub record OwnRelation (m : Runtime) (s : State) : Type 0 where
   pub array_names : s.array_names ≡ m.names.arrays
   pub function_names : s.function_names ≡ m.names.functions
   pub arrays : s.arrays ≡ m.arrays
-  pub frames : m.frames ≡ record { frames = map frame_view s.frames; staged = [] }
+  pub frames : m.frames.frames ≡ map frame_view s.frames
+  pub staged : m.frames.staged ≡ []
   pub next : pos s.next ≡ m.next
   pub input_seen : s.input_seen ≡ m.input_seen
   pub inside : (n : ℕ) → s.inside n ≡ inside_of m n
@@ -128,8 +129,16 @@ pub record Simulates {A : Type 0} (is_logged : Type 0) (old : Runtime) (before :
   pub names : new.names ≡ old.names
   pub told : is_logged → SimulatesLogged old before new after r run
 
--- a change of the code's state alone, whatever world stands beside it
+-- a change of the code's state alone, whatever world stands beside it; no call begins or is over
 pub record Changes {A : Type 0} (run : Run A) (old new : Runtime) (r : Result A Halt) : Type 0 where
+  pub steps : new.steps ≤ old.steps
+  pub names : new.names ≡ old.names
+  pub streams : new.streams ≡ old.streams
+  pub callers : new.frames.callers ≡ old.frames.callers
+  pub means : (k : WorldState) → SimulatesLogged old k new k r run
+
+-- the same where a call may begin or be over
+pub record ChangesCalls {A : Type 0} (run : Run A) (old new : Runtime) (r : Result A Halt) : Type 0 where
   pub steps : new.steps ≤ old.steps
   pub names : new.names ≡ old.names
   pub streams : new.streams ≡ old.streams
@@ -138,6 +147,7 @@ pub record Changes {A : Type 0} (run : Run A) (old new : Runtime) (r : Result A 
 -- what a call that reaches the world does
 pub record Follows {A : Type 0} (is_logged : Type 0) (run : Run A) (old : Runtime) (before : WorldState) (new : Runtime) (after : WorldState) (r : Result A Halt) : Type 0 where
   pub simulates : Simulates is_logged old before new after r run
+  pub callers : new.frames.callers ≡ old.frames.callers
 
 -- a step is spent, or there is none
 pub record Spends (old new : Runtime) (r : Result (Unit {0}) Halt) : Type 0 where

@@ -1,9 +1,10 @@
 -- The parameters of the active calls, as they are kept: all in one list, those of the oldest call first, and behind those of the
 -- newest one what a call that is about to be made is given.
-use Rattle.std.specs.Prelude.{◌≡◌, ◌≤◌, ℕ, ◌+◌, List, [], ◌∷◌, length, take, drop, slice_set, Option, Some, None}
+use Rattle.std.specs.Prelude.{◌≡◌, ◌≤◌, ℕ, ◌+◌, List, [], ◌∷◌, map, reverse, length, take, drop, slice_set, Option, Some, None}
 use Rattle.awk_value.specs.declared.value.Value.{Value}
 use Rattle.awk_semantics.specs.declared.local.Local.{Local}
 use Rattle.awk_semantics.specs.declared.local.Local.TheVariants as local
+use Rattle.awk_storage.specs.declared.entry.Caller.{Caller}
 use Rattle.awk_storage.specs.declared.entry.Entry.{Entry}
 
 -- the parameters of an active call, by their positions
@@ -14,11 +15,17 @@ pub record FrameView : Type 0 where
   -- how many arrays there were before the call
   pub arrays_before : ℕ
 
-pub record FramesView : Type 0 where
-  -- the active calls, the newest first
+-- the active calls, the newest first
+pub record ActiveView : Type 0 where
   pub frames : List FrameView
   -- what a call that is about to be made is given
   pub staged : List Local
+
+-- the same with their callers, which the definitions don't know
+pub record FramesView : Type 0 where
+  pub frames : List FrameView
+  pub staged : List Local
+  pub callers : List Caller
 
 -- what is kept of an active call besides its parameters
 pub record Saved : Type 0 where
@@ -36,9 +43,16 @@ abbrev pub frame_of : Saved → List Local → FrameView
 frame_of saved locals = record { locals = take saved.count locals; height = saved.height; arrays_before = saved.arrays_before }
 
 -- the calls, the oldest first, before which stand the older ones
-abbrev pub frames_from : List FrameView → List Local → List Saved → FramesView
+abbrev pub frames_from : List FrameView → List Local → List Saved → ActiveView
 frames_from older locals [] = record { frames = older; staged = locals }
 frames_from older locals (saved ∷ more) = frames_from (frame_of saved locals ∷ older) (drop saved.count locals) more
+
+-- the callers, that of the newest call first
+abbrev pub callers_in : List Entry → List Caller
+callers_in es = reverse (map (λ (e : Entry). e.caller) es)
+
+abbrev pub with_callers : List Caller → ActiveView → FramesView
+with_callers callers view = record { frames = view.frames; staged = view.staged; callers = callers }
 
 -- how many parameters calls have together
 abbrev pub total_count : List Saved → ℕ

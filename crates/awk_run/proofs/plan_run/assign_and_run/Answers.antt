@@ -1,3 +1,4 @@
+use Rattle.std.proofs.Common.{◌∙◌}
 use Rattle.std.proofs.lemmas.Result.{err_from_is_err_and}
 use Rattle.awk_run.proofs.Assigning.{assigned_halts, assigned_runs}
 use Rattle.awk_run.proofs.PlanParts.{set_behind}
@@ -14,7 +15,7 @@ returns-in_err-assign_all-clause-set g c = set_behind c.in_err-assign_all.ensure
 pub run_items-requires : goal.run_items-requires
 run_items-requires g c = record {
   set = set_behind c.in_ok-assign_all.ensures.changes c.requires.set;
-  idle = record { operands = c.requires.idle.operands; calls = c.requires.idle.calls };
+  idle = record { operands = c.requires.idle.operands; calls = c.in_ok-assign_all.ensures.changes.callers ∙ c.requires.idle.calls };
 }
 
 pub returns-clause-follows : goal.returns-clause-follows

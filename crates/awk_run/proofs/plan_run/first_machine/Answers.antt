@@ -1,4 +1,5 @@
 use Rattle.std.proofs.Common.{ap, refl, subst, sym, ◌∙◌}
+use Rattle.awk_storage.specs.support.Frames.{FramesView}
 use Rattle.awk_run.proofs.Starting.{distinct_arrays, distinct_functions, first_starts}
 use Rattle.awk_run.proofs.plan_run.first_machine.Goals as goal
 
@@ -10,4 +11,4 @@ program_names-requires c = record {
 }
 
 pub returns : goal.returns
-returns c = first_starts c.in_ok-names.ensures (rw (c.deref.ensures.value, c.deref-2.ensures.value) at c.in_ok-runtime.ensures.start) c.new-2.ensures.runtime c.new-2.ensures.idle
+returns c = first_starts c.in_ok-names.ensures (rw (c.deref.ensures.value, c.deref-2.ensures.value) at c.in_ok-runtime.ensures.start) c.new-2.ensures.runtime (c.new-2.ensures.idle (ap (λ (f : FramesView). f.callers) c.in_ok-runtime.ensures.start.frames))

@@ -4,7 +4,7 @@ use Rattle.awk_evaluator.proofs.Computing.{performed, acted, acted_ready}
 use Rattle.awk_evaluator.proofs.machine.Machine.act.Goals as goal
 
 pub returns-in-Spend-clause-performs : goal.returns-in-Spend-clause-performs
-returns-in-Spend-clause-performs g c = rw c.in-Spend.is (performed c.spend.result refl refl (λ functions. change_simulates c.spend.ensures.changes))
+returns-in-Spend-clause-performs g c = rw c.in-Spend.is (performed c.spend.result refl c.spend.ensures.changes.callers (λ functions. change_simulates c.spend.ensures.changes))
 
 pub returns-in-Drop-clause-performs : goal.returns-in-Drop-clause-performs
 returns-in-Drop-clause-performs g c = rw c.in-Drop.is (performed (Ok tt) c.drop.ensures refl (λ functions. lift_simulates (Ok tt) _ _ refl))
@@ -19,10 +19,10 @@ pub returns-in-Clear-clause-ready : goal.returns-in-Clear-clause-ready
 returns-in-Clear-clause-ready g c = ready_behind c.clear_at.ensures c.requires.ready
 
 pub returns-in-Clear-clause-performs : goal.returns-in-Clear-clause-performs
-returns-in-Clear-clause-performs g c = rw c.in-Clear.is (performed (Ok tt) refl refl (λ functions. change_simulates c.clear_at.ensures))
+returns-in-Clear-clause-performs g c = rw c.in-Clear.is (performed (Ok tt) refl c.clear_at.ensures.callers (λ functions. change_simulates c.clear_at.ensures))
 
 pub returns-in-EndInput-clause-performs : goal.returns-in-EndInput-clause-performs
-returns-in-EndInput-clause-performs g c = rw c.in-EndInput.is (performed (Ok tt) refl refl (λ functions. c.close_main_input.ensures.follows.simulates))
+returns-in-EndInput-clause-performs g c = rw c.in-EndInput.is (performed (Ok tt) refl c.close_main_input.ensures.follows.callers (λ functions. c.close_main_input.ensures.follows.simulates))
 
 pub returns-in-SetStatus-clause-ready : goal.returns-in-SetStatus-clause-ready
 returns-in-SetStatus-clause-ready g c = acted_ready c.set_status.ensures c.requires.ready
@@ -34,4 +34,4 @@ pub returns-in-SetInside-clause-ready : goal.returns-in-SetInside-clause-ready
 returns-in-SetInside-clause-ready g c = ready_behind c.set_inside.ensures c.requires.ready
 
 pub returns-in-SetInside-clause-performs : goal.returns-in-SetInside-clause-performs
-returns-in-SetInside-clause-performs g c = rw c.in-SetInside.is (performed c.set_inside.result refl refl (λ functions. change_simulates c.set_inside.ensures))
+returns-in-SetInside-clause-performs g c = rw c.in-SetInside.is (performed c.set_inside.result refl c.set_inside.ensures.callers (λ functions. change_simulates c.set_inside.ensures))

@@ -22,6 +22,6 @@ returns-in_err-appended c =
 pub returns : goal.returns
 returns c = record {
   operands = c.drop-2.ensures;
-  calls = refl;
+  calls = (texts_appended c.args.variable c.newest-parts.result.now c.in_ok-text.ensures c.in_ok-behind.ensures c.in_ok-appended.ensures).callers;
   changes = rw (← c.newest-parts.ensures) (texts_appended c.args.variable c.newest-parts.result.now c.in_ok-text.ensures c.in_ok-behind.ensures c.in_ok-appended.ensures);
 }

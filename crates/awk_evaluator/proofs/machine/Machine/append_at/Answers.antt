@@ -15,4 +15,4 @@ returns-in_err-behind c =
     rw (p.1, p.2) (values_unread c.args.place c.args.operand.now c.args.parts.now _ c.in_ok-old.ensures c.in_err-behind.ensures)
 
 pub returns : goal.returns
-returns c = values_behind c.args.place c.args.operand.now c.args.parts.now _ c.in_ok-old.ensures c.in_ok-behind.ensures refl refl _ c.assign_appended.result c.assign_appended.ensures
+returns c = values_behind c.args.place c.args.operand.now c.args.parts.now _ c.in_ok-old.ensures c.in_ok-behind.ensures refl c.in_ok-old.ensures.callers _ c.assign_appended.result c.assign_appended.ensures

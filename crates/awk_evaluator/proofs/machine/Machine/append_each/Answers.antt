@@ -1,4 +1,4 @@
-use Rattle.std.proofs.Common.{refl, ap, Ok}
+use Rattle.std.proofs.Common.{ap, Ok}
 use Rattle.std.proofs.lemmas.Result.{err_from_is_err_and}
 use Rattle.awk_evaluator.proofs.Joining.{each_done}
 use Rattle.awk_evaluator.proofs.machine.Machine.append_each.Goals as goal
@@ -9,4 +9,6 @@ returns-in_err-append_in_place-clause-refused c =
     rw (p.1, p.2) (record { operands = tt; calls = tt; changes = (c.in_err-append_in_place.ensures {u = tt}).refused _ })
 
 pub returns-clause-appended : goal.returns-clause-appended
-returns-clause-appended c = λ _. each_done c.args.variable.now c.args.count {ws = c.newest-parts.result.now} c.newest-parts.ensures ((c.in_ok-append_in_place.ensures {u = tt}).appends (ap Ok c.if-not-branch.false)) c.drop.ensures refl
+returns-clause-appended c = λ _.
+    let a = (c.in_ok-append_in_place.ensures {u = tt}).appends (ap Ok c.if-not-branch.false) in
+    each_done c.args.variable.now c.args.count {ws = c.newest-parts.result.now} c.newest-parts.ensures a c.drop.ensures a.appends.callers

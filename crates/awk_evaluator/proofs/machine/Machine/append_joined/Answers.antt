@@ -13,7 +13,7 @@ returns-in-Variable-clause-appended c = λ done.
     let joins = subst (λ (l : List ℕ). Joins c.args.parts.now c.args.self.now l c.join_at_hand.new.text.items) c.requires (c.join_at_hand.ensures.joined c.if-not-join_at_hand.false) in
     let text = subst (λ (l : List ℕ). AppendsAt (place.Variable c.in-Variable.variable) Nothing l c.join_at_hand.new.self.runtime c.append_bytes_to.new.self) c.deref.ensures.value (c.append_bytes_to.ensures.appends done Nothing) in
     let appends = subst (λ (x : Machine). AppendsAt (place.Variable c.in-Variable.variable) Nothing c.join_at_hand.new.text.items x.runtime c.append_bytes_to.new.self) same text in
-    rw c.in-Variable.is (variable_appended c.args.parts.now joins c.in-Variable.variable appends (ap (λ (x : Machine). x.operands) same) (ap (λ (x : Machine). x.calls) same))
+    rw c.in-Variable.is (variable_appended c.args.parts.now joins c.in-Variable.variable appends (ap (λ (x : Machine). x.operands) same) appends.appends.callers)
 
 pub returns-in-Variable-clause-refused : goal.returns-in-Variable-clause-refused
 returns-in-Variable-clause-refused c = refused_leaves _ _ c.append_bytes_to.result c.join_at_hand.ensures.same c.append_bytes_to.ensures.refused

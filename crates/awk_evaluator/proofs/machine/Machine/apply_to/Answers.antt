@@ -23,4 +23,4 @@ returns-in_err-value c =
 pub returns : goal.returns
 returns c =
     let are = c.as_slice-2.ensures.value ∙ c.in_ok-push_copies.ensures ∙ ap (λ (l : List Value). c.in_ok-arguments.arguments.items ++ l) c.newest.ensures in
-    applied (record c.read_operands.new.self { runtime = c.apply_function.new.self }) (rw c.as_slice.ensures.value at c.in_ok-arguments.ensures) are c.in_ok-value.ensures refl refl c.drop.ensures refl refl
+    applied (record c.read_operands.new.self { runtime = c.apply_function.new.self }) (rw c.as_slice.ensures.value at c.in_ok-arguments.ensures) are c.in_ok-value.ensures refl c.in_ok-value.ensures.callers c.drop.ensures refl refl

@@ -7,4 +7,4 @@ pub returns-clause-assigned : goal.returns-clause-assigned
 returns-clause-assigned c = λ _.
     let number : to_z w128 (of_z w128 c.in-Some.n) ≡ c.in-Some.n = search rules in
     let g = (c.if-not-change_number.ensures {u = tt}).changes refl in
-    rw c.in-Variable.is (number_assigned c.in-Some.n c.in-Some.ensures (rw number at g) c.pop.ensures.rest refl)
+    rw c.in-Variable.is (number_assigned c.in-Some.n c.in-Some.ensures (rw number at g) c.pop.ensures.rest g.changes.callers)

@@ -2,7 +2,7 @@ use Rattle.std.proofs.Common.{List, ap, ◌∙◌, refl, drop}
 use Rattle.awk_value.specs.declared.value.Value.{Value}
 use Rattle.awk_resolve.specs.Nodes.{first}
 use Rattle.awk_evaluator.specs.Operands.{OperandsView}
-use Rattle.awk_evaluator.proofs.Computing.{drop_two, second_is}
+use Rattle.awk_evaluator.proofs.Computing.{drop_two, second_is, given_callers}
 use Rattle.awk_evaluator.proofs.Parts.{element_given}
 use Rattle.awk_evaluator.proofs.machine.Machine.assign_in.Goals as goal
 
@@ -11,4 +11,4 @@ returns c =
     let vs = c.args.self.now.operands.values in
     let key = c.top_or-key.ensures ∙ (ap (λ (o : OperandsView). first o.values) c.pop-value.ensures.rest ∙ second_is vs) in
     let left = c.drop-2.ensures ∙ (ap (λ (o : OperandsView). record o { values = drop 1 o.values }) c.pop-value.ensures.rest ∙ ap (λ (l : List Value). record c.args.self.now.operands { values = l }) (drop_two vs)) in
-    element_given c.assign_element-assigned.result c.is_done.ensures.came c.is_done.ensures.kept (rw (c.pop-value.ensures.top, key) at c.assign_element-assigned.ensures) left refl
+    element_given c.assign_element-assigned.result c.is_done.ensures.came c.is_done.ensures.kept (rw (c.pop-value.ensures.top, key) at c.assign_element-assigned.ensures) left (given_callers c.assign_element-assigned.result c.assign_element-assigned.ensures)

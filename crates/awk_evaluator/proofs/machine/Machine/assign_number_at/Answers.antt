@@ -7,4 +7,4 @@ pub returns-clause-assigned : goal.returns-clause-assigned
 returns-clause-assigned c = λ done.
     let number : to_z w128 (of_z w128 c.in-Some.n) ≡ c.in-Some.n = search rules in
     let g = c.change_number.ensures.changes done in
-    number_read c.args.operator c.args.variable.now c.in-Some.ensures (rw number at g) refl refl
+    number_read c.args.operator c.args.variable.now c.in-Some.ensures (rw number at g) refl g.changes.callers

@@ -8,4 +8,4 @@ pub returns-clause-assigned : goal.returns-clause-assigned
 returns-clause-assigned c = λ _.
     let number : to_z w128 (of_z w128 c.in-Some.n) ≡ c.in-Some.n = search rules in
     let g = (c.if-not-change_element.ensures {u = tt}).changes refl in
-    rw c.in-Element.is (element_assigned (Number c.in-Some.n) (alike_itself c.args.operator c.in-Some.ensures) (rw (number, ← c.in-Some-below.ensures) at g) c.drop.ensures refl)
+    rw c.in-Element.is (element_assigned (Number c.in-Some.n) (alike_itself c.args.operator c.in-Some.ensures) (rw (number, ← c.in-Some-below.ensures) at g) c.drop.ensures g.gives.1.callers)

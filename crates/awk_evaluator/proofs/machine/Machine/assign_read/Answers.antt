@@ -9,4 +9,4 @@ returns-in_err-value c =
     rw (p.1, p.2) (not_read c.args.variable c.args.operator c.args.operand.now c.in_err-value.ensures)
 
 pub returns : goal.returns
-returns c = assigned_read c.args.variable c.args.operator c.args.operand.now c.in_ok-value.ensures refl refl (rw c.operator_of.ensures at c.assign_by_at.ensures)
+returns c = assigned_read c.args.variable c.args.operator c.args.operand.now c.in_ok-value.ensures refl c.assign_by_at.ensures.callers (rw c.operator_of.ensures at c.assign_by_at.ensures)

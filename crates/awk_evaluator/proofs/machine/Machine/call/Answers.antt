@@ -3,7 +3,7 @@ use Rattle.std.proofs.lemmas.Result.{err_from_is_err_and}
 use Rattle.awk_storage.specs.Control.{highest_sum}
 use Rattle.awk_storage.specs.support.Frames.{FrameView, FramesView, heights_of}
 use Rattle.awk_runtime.specs.declared.runtime.Runtime.{Runtime}
-use Rattle.awk_evaluator.proofs.CallBegins.{check_ends, spend_ends, give_ends, enter_ends, entry_ends, begins_call}
+use Rattle.awk_evaluator.proofs.CallBegins.{check_ends, spend_ends, give_ends, enter_ends, begins_call}
 use Rattle.awk_evaluator.proofs.machine.Machine.call.Goals as goal
 
 pub returns-in_err-check_height : goal.returns-in_err-check_height
@@ -19,7 +19,7 @@ returns-in_err-spend c =
 pub returns-in_err-give_arguments : goal.returns-in_err-give_arguments
 returns-in_err-give_arguments c =
     let p = err_from_is_err_and c.from_residual-in_err-give_arguments.result c.from_residual-in_err-give_arguments.ensures.1 in
-    rw (p.1, p.2) (give_ends _ _ _ _ c.in_ok-check_height.ensures.changes c.in_ok-spend.ensures refl refl c.in_err-give_arguments.ensures)
+    rw (p.1, p.2) (give_ends _ _ _ _ c.in_ok-check_height.ensures.changes c.in_ok-spend.ensures refl c.in_err-give_arguments.ensures)
 
 pub enter_call-requires : goal.enter_call-requires
 enter_call-requires c =
@@ -31,14 +31,9 @@ enter_call-requires c =
 pub returns-in_err-enter_call : goal.returns-in_err-enter_call
 returns-in_err-enter_call c =
     let p = err_from_is_err_and c.from_residual-in_err-enter_call.result c.from_residual-in_err-enter_call.ensures.1 in
-    rw (p.1, p.2) (let kinds : c.as_slice.result.now ≡ c.args.function.now.arrays.items = search rules in enter_ends _ _ _ _ c.in_ok-check_height.ensures.changes c.in_ok-spend.ensures refl refl c.in_ok-give_arguments.ensures kinds c.in_err-enter_call.ensures)
-
-pub returns-in_err-enter : goal.returns-in_err-enter
-returns-in_err-enter c =
-    let p = err_from_is_err_and c.from_residual-in_err-enter.result c.from_residual-in_err-enter.ensures.1 in
-    rw (p.1, p.2) (let kinds : c.as_slice.result.now ≡ c.args.function.now.arrays.items = search rules in entry_ends _ _ _ _ c.in_ok-check_height.ensures.changes c.in_ok-spend.ensures refl refl c.in_ok-give_arguments.ensures kinds refl c.in_ok-enter_call.ensures)
+    rw (p.1, p.2) (let kinds : c.as_slice.result.now ≡ c.args.function.now.arrays.items = search rules in enter_ends _ _ _ _ c.in_ok-check_height.ensures.changes c.in_ok-spend.ensures refl c.in_ok-give_arguments.ensures kinds c.in_err-enter_call.ensures)
 
 pub returns : goal.returns
 returns c =
     let kinds : c.as_slice.result.now ≡ c.args.function.now.arrays.items = search rules in
-    begins_call _ _ _ _ c.in_ok-check_height.ensures.changes c.in_ok-spend.ensures refl refl c.in_ok-give_arguments.ensures kinds refl c.in_ok-enter_call.ensures c.enter-base.ensures.base c.enter-base.ensures.entered c.in_ok-enter.ensures.entered
+    begins_call _ _ _ _ c.in_ok-check_height.ensures.changes c.in_ok-spend.ensures refl c.in_ok-give_arguments.ensures kinds refl c.base.ensures c.in_ok-enter_call.ensures c.enter.ensures

@@ -15,4 +15,4 @@ returns-in_err-close_named-clause-evaluates g c =
 pub returns-clause-evaluates : goal.returns-clause-evaluates
 returns-clause-evaluates g c =
     let same : to_z w128 (of_z w128 c.in_ok-close_named.field-0) ≡ c.in_ok-close_named.field-0 = omega (arith, ints) in
-    rw same (evaluated (Ok _) c.pop-name.ensures.rest refl (λ tables functions. rw (← c.pop-name.ensures.top) (then_simulates _ c.in_ok-close_named.ensures.follows.simulates (lift_simulates (Ok _) _ _ refl))))
+    rw same (evaluated (Ok _) c.pop-name.ensures.rest c.in_ok-close_named.ensures.follows.callers (λ tables functions. rw (← c.pop-name.ensures.top) (then_simulates _ c.in_ok-close_named.ensures.follows.simulates (lift_simulates (Ok _) _ _ refl))))

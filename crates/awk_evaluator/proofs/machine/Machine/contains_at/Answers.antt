@@ -14,4 +14,4 @@ returns-in_err-is_there c =
     rw (p.1, p.2) (not_found c.args.array c.args.key.now c.in_ok-key.ensures c.in_err-is_there.ensures)
 
 pub returns : goal.returns
-returns c = rw c.truth_value.ensures (contained c.args.array c.args.key.now c.in_ok-key.ensures c.in_ok-is_there.ensures refl refl)
+returns c = rw c.truth_value.ensures (contained c.args.array c.args.key.now c.in_ok-key.ensures c.in_ok-is_there.ensures refl c.in_ok-is_there.ensures.callers)

@@ -10,4 +10,4 @@ returns-in_err-is_there c =
     rw (p.1, p.2) (ended _ (λ tables functions. ends_changes _ (rw (← c.pop-key.ensures.top) c.in_err-is_there.ensures)))
 
 pub returns : goal.returns
-returns c = computed (Ok _) c.pop-key.ensures.rest refl (λ tables functions. rw (← c.pop-key.ensures.top, c.truth_value.ensures) (made_of _ _ c.in_ok-is_there.ensures))
+returns c = computed (Ok _) c.pop-key.ensures.rest c.in_ok-is_there.ensures.callers (λ tables functions. rw (← c.pop-key.ensures.top, c.truth_value.ensures) (made_of _ _ c.in_ok-is_there.ensures))

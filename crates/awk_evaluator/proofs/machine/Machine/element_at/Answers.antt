@@ -9,4 +9,4 @@ returns-in_err-key c =
     rw (p.1, p.2) (element_unread c.args.array c.args.key.now c.in_err-key.ensures)
 
 pub returns : goal.returns
-returns c = element_read c.args.array c.args.key.now c.in_ok-key.ensures _ c.read_element_of.ensures refl refl
+returns c = element_read c.args.array c.args.key.now c.in_ok-key.ensures _ c.read_element_of.ensures refl c.read_element_of.ensures.callers

@@ -13,4 +13,4 @@ returns-in_err-flush_all-clause-evaluates g c =
 
 pub returns-clause-evaluates : goal.returns-clause-evaluates
 unfolding flush_outputs
-returns-clause-evaluates g c = evaluated (Ok _) refl refl (λ tables functions. then_simulates _ c.in_ok-flush_all.ensures.follows.simulates (lift_simulates (Ok _) _ _ refl))
+returns-clause-evaluates g c = evaluated (Ok _) refl c.in_ok-flush_all.ensures.follows.callers (λ tables functions. then_simulates _ c.in_ok-flush_all.ensures.follows.simulates (lift_simulates (Ok _) _ _ refl))

@@ -14,7 +14,7 @@ returns-then-place_operand_count-eq0-clause-evaluates g c =
     let command : c.pop-top.result ≡ get_or o.values (place_operands c.args.place) Nothing = c.pop-top.ensures.top ∙ ap (λ n. get_or o.values n Nothing) (sym none) in
     evaluated c.named_getline_at.result
     (c.pop-top.ensures.rest ∙ ap (λ n. record o { values = drop (1 + n) o.values }) (sym none))
-    refl
+    c.named_getline_at.ensures.follows.callers
     (λ tables functions. rw (← command, ← c.pop-top.ensures.top) c.named_getline_at.ensures.follows.simulates)
 
 pub returns-clause-evaluates : goal.returns-clause-evaluates
@@ -25,5 +25,5 @@ returns-clause-evaluates g c =
     let command : c.pop-command.result ≡ get_or o.values (place_operands c.args.place) Nothing = next ∙ ap (λ n. get_or o.values n Nothing) (sym one) in
     evaluated c.named_getline_at-2.result
     (c.pop-command.ensures.rest ∙ (ap (λ (v : OperandsView). record v { values = drop 1 v.values }) c.pop-top.ensures.rest ∙ (ap (λ (l : List Value). record o { values = l }) (drop_two o.values) ∙ ap (λ n. record o { values = drop (1 + n) o.values }) (sym one))))
-    refl
+    c.named_getline_at-2.ensures.follows.callers
     (λ tables functions. rw (← command, ← c.pop-top.ensures.top) c.named_getline_at-2.ensures.follows.simulates)

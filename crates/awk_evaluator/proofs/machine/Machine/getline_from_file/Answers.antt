@@ -20,4 +20,4 @@ returns-clause-evaluates g c =
     let operand = ap (λ (o : OperandsView). first o.values) c.pop-name.ensures.rest ∙ second_is vs in
     let left = c.in_ok-answer.ensures.operands ∙ c.pop-name.ensures.rest in
     let rest = c.drop-2.ensures ∙ (ap (λ (o : OperandsView). record o { values = drop c.place_operand_count.result o.values }) left ∙ (ap (λ n. record { values = drop n (drop 1 vs); below = below }) c.place_operand_count.ensures ∙ ap (λ (l : List Value). record { values = l; below = below }) (drop-drop (place_operands c.args.place) 1 vs))) in
-    evaluated (Ok _) rest c.in_ok-answer.ensures.calls (λ tables functions. rw (← c.pop-name.ensures.top, ← operand) c.in_ok-answer.ensures.follows.simulates)
+    evaluated (Ok _) rest c.in_ok-answer.ensures.follows.callers (λ tables functions. rw (← c.pop-name.ensures.top, ← operand) c.in_ok-answer.ensures.follows.simulates)

@@ -17,7 +17,6 @@ arguments-preserved c =
     let given = c.in_ok-give_argument.ensures.gives.given in
     record {
       operands = c.in_ok-give_argument.ensures.operands ∙ i.operands;
-      calls = c.in_ok-give_argument.ensures.calls ∙ i.calls;
       frames = ap (λ (m : Runtime). m.frames.frames) given ∙ i.frames;
       low = omega (arith, low, one);
       within = one_within c.args.forms.now c.arguments.index at;
@@ -32,4 +31,4 @@ returns c =
     let dropped : OperandsView → OperandsView = λ o. record { values = drop count o.values; below = o.below } in
     all_given count c.values_among-count.ensures
     (given_none c.args.forms.now (taken count c.args.self.now.operands.values) c.arguments.index c.arguments.given c.args.self.now.runtime.frames _ _ (sym c.in_default.ensures) i.rest)
-    (c.drop.ensures ∙ ap dropped i.operands) i.calls
+    (c.drop.ensures ∙ ap dropped i.operands)

@@ -8,7 +8,6 @@ invariant-arguments l =
     let args = taken l.count l.initial.self.operands.values in
     record {
       operands : l.self.operands ≡ l.initial.self.operands;
-      calls : l.self.calls ≡ l.initial.self.calls;
       frames : l.self.runtime.frames.frames ≡ l.initial.self.runtime.frames.frames;
       low : l.given ≤ l.index;
       within : l.index ≤ length l.forms;

@@ -18,4 +18,4 @@ returns-in_err-push c =
 pub returns : goal.returns
 returns c =
     let pushed : c.push.new.self ≡ record { values = value.Number (pos c.saturating_sub-left.result) ∷ c.pop-key.new.self.values; below = c.pop-key.new.self.below } = first_of (search rules, grind (arith, common_steps)) in
-    next_key c.pop-count.ensures.top c.pop-count.ensures.rest c.pop-key.ensures.top c.pop-key.ensures.rest c.in_ok-put_variable.ensures (c.saturating_sub-left.ensures ∙ ap (λ n. n - 1) c.keys_left.ensures) pushed refl
+    next_key c.pop-count.ensures.top c.pop-count.ensures.rest c.pop-key.ensures.top c.pop-key.ensures.rest c.in_ok-put_variable.ensures (c.saturating_sub-left.ensures ∙ ap (λ n. n - 1) c.keys_left.ensures) pushed c.in_ok-put_variable.ensures.callers

@@ -1,3 +1,4 @@
+use Rattle.awk_evaluator.proofs.Computing.{given_callers}
 use Rattle.std.proofs.Common.{refl}
 use Rattle.std.proofs.lemmas.Result.{err_from_is_err_and}
 use Rattle.awk_lex.specs.declared.token.AssignmentOperator.TheVariants.{Plain}
@@ -10,4 +11,4 @@ returns-in_err-value c =
     rw (p.1, p.2) (record { done = not_read c.args.variable Plain c.args.operand.now c.in_err-value.ensures })
 
 pub returns : goal.returns
-returns c = given_read c.args.variable Plain c.args.operand.now c.assign_variable.result c.in_ok-value.ensures refl refl c.assign_variable.ensures
+returns c = given_read c.args.variable Plain c.args.operand.now c.assign_variable.result c.in_ok-value.ensures refl (given_callers c.assign_variable.result c.assign_variable.ensures) c.assign_variable.ensures

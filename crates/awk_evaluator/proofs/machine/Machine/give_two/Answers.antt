@@ -17,4 +17,4 @@ returns c =
     let one = c.in_ok-give_value.ensures.given in
     let two = c.give_value-2.ensures in
     let dropped : OperandsView → OperandsView = λ o. record { values = drop 1 o.values; below = o.below } in
-    rw c.requires (two_given c.in-Some.ensures c.in-Some-number.ensures (rw left at one) (rw right at two) (c.pop-3.ensures.rest ∙ ap dropped c.pop.ensures.rest) refl)
+    rw c.requires (two_given c.in-Some.ensures c.in-Some-number.ensures (rw left at one) (rw right at two) (c.pop-3.ensures.rest ∙ ap dropped c.pop.ensures.rest))

@@ -15,7 +15,7 @@ pub returns-clause-kept : goal.returns-clause-kept
 returns-clause-kept g c = λ no.
     let m = c.args.self.now in
     let lent : Machine = record m { runtime = c.lend_line-line.new.self } in
-    same_twice (subst (λ (x : Machine). SameMachine m x) (sym (c.hold_line-holds.ensures.kept no)) (room_changed {m = m} {m' = lent} refl refl c.lend_line-line.ensures.same)) (room_changed refl refl c.take_line_back.ensures)
+    same_twice (subst (λ (x : Machine). SameMachine m x) (sym (c.hold_line-holds.ensures.kept no)) (room_changed {m = m} {m' = lent} refl c.lend_line-line.ensures.same)) (room_changed refl c.take_line_back.ensures)
 
 pub returns-clause-prints : goal.returns-clause-prints
-returns-clause-prints g c = λ holds. printed_before (printed_behind (Ok tt) (room_changed refl refl c.lend_line-line.ensures.same) (c.hold_line-holds.ensures.prints holds)) (room_changed refl refl c.take_line_back.ensures)
+returns-clause-prints g c = λ holds. printed_before (printed_behind (Ok tt) (room_changed refl c.lend_line-line.ensures.same) (c.hold_line-holds.ensures.prints holds)) (room_changed refl c.take_line_back.ensures)

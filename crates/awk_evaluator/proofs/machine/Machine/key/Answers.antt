@@ -10,4 +10,4 @@ returns-in_err-key c =
     rw (p.1, p.2) (ended _ (λ tables functions. ends_changes _ (rw (← c.newest-subscripts.ensures) c.in_err-key.ensures)))
 
 pub returns : goal.returns
-returns c = computed (Ok _) c.drop.ensures refl (λ tables functions. rw (← c.newest-subscripts.ensures) (made_of _ _ c.in_ok-key.ensures))
+returns c = computed (Ok _) c.drop.ensures c.in_ok-key.ensures.callers (λ tables functions. rw (← c.newest-subscripts.ensures) (made_of _ _ c.in_ok-key.ensures))

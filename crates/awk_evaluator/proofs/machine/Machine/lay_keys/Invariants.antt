@@ -5,7 +5,6 @@ use Rattle.awk_evaluator.proofs.machine.Machine.lay_keys.Given as goal
 abbrev pub invariant-loop-key : goal.invariant-loop-key
 invariant-loop-key l = record {
   runtime : l.self.runtime ≡ l.initial.self.runtime;
-  calls : l.self.calls ≡ l.initial.self.calls;
   together : laid l.keys.items l.self.operands ≡ laid l.initial.keys.items l.initial.self.operands;
 }
 

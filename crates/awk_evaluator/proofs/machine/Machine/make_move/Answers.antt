@@ -47,7 +47,7 @@ pub returns-in-AppendOperands : goal.returns-in-AppendOperands
 returns-in-AppendOperands g c = rw (c.onward-in-AppendOperands.ensures, c.in-AppendOperands.is) (record { ready = ready_left c.append_operands.result c.append_operands.ensures c.requires.ready; moves = append_operands_moves c.append_operands.result (rw c.deref.ensures.value at c.append_operands.ensures) })
 
 pub returns-in-Again : goal.returns-in-Again
-returns-in-Again g c = rw (c.upward.ensures, c.in-Again.is) (record { ready = ready_behind c.spend.ensures.spends.changes c.requires.ready; moves = again_moves c.spend.result c.head_of-head.ensures c.spend.ensures.operands c.spend.ensures.calls c.spend.ensures.spends })
+returns-in-Again g c = rw (c.upward.ensures, c.in-Again.is) (record { ready = ready_behind c.spend.ensures.spends.changes c.requires.ready; moves = again_moves c.spend.result c.head_of-head.ensures c.spend.ensures.operands c.spend.ensures.spends.changes.callers c.spend.ensures.spends })
 
 pub returns-in-Return : goal.returns-in-Return
 returns-in-Return g c = rw c.in-Return.is (record { ready = ready_given c.give_back.result c.give_back.ensures c.requires.ready; moves = returns_value c.give_back.ensures })

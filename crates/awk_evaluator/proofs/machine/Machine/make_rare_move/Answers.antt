@@ -1,4 +1,5 @@
-use Rattle.std.proofs.Common.{refl, sym, ◌∙◌}
+use Rattle.awk_runtime.specs.declared.runtime.Runtime.{Runtime}
+use Rattle.std.proofs.Common.{refl, sym, ap, ◌∙◌}
 use Rattle.awk_runtime.proofs.Composition.{ready_behind}
 use Rattle.awk_evaluator.proofs.Moving.{key_exit, walk_left, ending_stops, zero_test, no_zero_test}
 use Rattle.awk_evaluator.proofs.NodeMoves.{append_moves, print_moves, walk_moves, key_moves, turn_moves, ready_appended, ready_put}
@@ -20,10 +21,10 @@ pub returns-in-TakeKey : goal.returns-in-TakeKey
 returns-in-TakeKey g c = rw (c.onward-in-TakeKey.ensures, c.in-TakeKey.is) (record { ready = ready_behind c.take_key.ensures.changes c.requires.ready; moves = key_moves c.take_key.result c.take_key.ensures })
 
 pub returns-in-LeaveWalk-clause-moves : goal.returns-in-LeaveWalk-clause-moves
-returns-in-LeaveWalk-clause-moves g c = rw c.in-LeaveWalk.is (walk_left c.leave_walk.ensures.operands c.leave_walk.ensures.calls c.leave_walk.ensures.runtime)
+returns-in-LeaveWalk-clause-moves g c = rw c.in-LeaveWalk.is (walk_left c.leave_walk.ensures.operands (ap (λ (r : Runtime). r.frames.callers) c.leave_walk.ensures.runtime) c.leave_walk.ensures.runtime)
 
 pub returns-in-Stop-clause-moves : goal.returns-in-Stop-clause-moves
 returns-in-Stop-clause-moves g c = rw (c.halt_by.ensures.halted, c.halt_by.ensures.kept, c.in-Stop.is) (ending_stops _ refl c.halt_of.ensures)
 
 pub returns-else-has_no_key-clause-moves : goal.returns-else-has_no_key-clause-moves
-returns-else-has_no_key-clause-moves g c = rw (c.upward.ensures, c.in-NextKey.is) (turn_moves c.spend.result (no_zero_test _ (sym c.has_no_key.ensures ∙ c.if-has_no_key.false)) c.head_of-head.ensures c.spend.ensures.operands c.spend.ensures.calls c.spend.ensures.spends)
+returns-else-has_no_key-clause-moves g c = rw (c.upward.ensures, c.in-NextKey.is) (turn_moves c.spend.result (no_zero_test _ (sym c.has_no_key.ensures ∙ c.if-has_no_key.false)) c.head_of-head.ensures c.spend.ensures.operands c.spend.ensures.spends.changes.callers c.spend.ensures.spends)

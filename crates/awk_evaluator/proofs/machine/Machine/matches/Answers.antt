@@ -7,7 +7,7 @@ pub returns-in-Field-eq0 : goal.returns-in-Field-eq0
 returns-in-Field-eq0 c =
     let inner = c.in-Field-eq0.field-0-test in
     let record_is : c.in-Field-eq0.field-0 ≡ 0 = rw c.in-Field-eq0.is at inner in
-    rw (c.in-Field-eq0.is, record_is) (record_matched c.args.ere c.record_matches.result refl refl c.record_matches.ensures)
+    rw (c.in-Field-eq0.is, record_is) (record_matched c.args.ere c.record_matches.result refl c.record_matches.ensures.callers c.record_matches.ensures)
 
 pub returns-in_err-text : goal.returns-in_err-text
 returns-in_err-text c =
@@ -15,4 +15,4 @@ returns-in_err-text c =
     rw (p.1, p.2) (operand_not_matched c.args.operand.now c.args.ere c.in_err-text.ensures)
 
 pub returns : goal.returns
-returns c = operand_matched c.args.operand.now c.args.ere c.in_ok-text.ensures refl refl c.matches_ere.ensures
+returns c = operand_matched c.args.operand.now c.args.ere c.in_ok-text.ensures refl c.matches_ere.ensures.callers c.matches_ere.ensures

@@ -13,4 +13,4 @@ returns-in_err-right c =
     rw (p.1, p.2) (operated_on_one c.in_ok-left.ensures c.in_err-right.ensures)
 
 pub returns : goal.returns
-returns c = operated_on_operands c.in_ok-left.ensures c.in_ok-right.ensures c.join.ensures.operands c.join.ensures.calls c.join.ensures.changes
+returns c = operated_on_operands c.in_ok-left.ensures c.in_ok-right.ensures c.join.ensures.operands c.join.ensures.changes.callers c.join.ensures.changes

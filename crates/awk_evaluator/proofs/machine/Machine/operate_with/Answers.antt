@@ -8,4 +8,4 @@ returns-in_err-right c =
     rw (p.1, p.2) (operated_with_none c.in_err-right.ensures)
 
 pub returns : goal.returns
-returns c = operated_with_operand c.in_ok-right.ensures c.pop-left.ensures.top c.pop-left.ensures.rest c.join.ensures.operands c.join.ensures.calls c.join.ensures.changes
+returns c = operated_with_operand c.in_ok-right.ensures c.pop-left.ensures.top c.pop-left.ensures.rest c.join.ensures.operands c.join.ensures.changes.callers c.join.ensures.changes

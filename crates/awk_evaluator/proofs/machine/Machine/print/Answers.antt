@@ -1,3 +1,4 @@
+use Rattle.awk_evaluator.proofs.Moving.{no_functions}
 use Rattle.std.proofs.Common.{◌≡◌, ◌+◌, drop, Ok, refl, ap, ◌∙◌, arith}
 use Rattle.std.proofs.lemmas.Result.{err_from_is_err_and}
 use Rattle.awk_evaluator.proofs.Computing.{performed, effect_ended}
@@ -12,4 +13,4 @@ pub returns-clause-performs : goal.returns-clause-performs
 returns-clause-performs g c =
     let o = c.args.self.now.operands in
     let count : c.args.count ≡ 0 + c.args.count = omega arith in
-    performed (Ok tt) (c.drop.ensures ∙ ap (λ n. record o { values = drop n o.values }) count) refl (λ functions. rw (← c.newest-values.ensures) (c.in_ok-print.ensures.follows functions).simulates)
+    performed (Ok tt) (c.drop.ensures ∙ ap (λ n. record o { values = drop n o.values }) count) (c.in_ok-print.ensures.follows no_functions).callers (λ functions. rw (← c.newest-values.ensures) (c.in_ok-print.ensures.follows functions).simulates)

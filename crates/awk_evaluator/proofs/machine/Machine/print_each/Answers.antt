@@ -1,3 +1,4 @@
+use Rattle.awk_evaluator.proofs.Moving.{no_functions}
 use Rattle.std.proofs.Common.{Ok, refl, sym, ◌∙◌}
 use Rattle.std.proofs.lemmas.Result.{err_from_is_err_and}
 use Rattle.awk_runtime.proofs.Composition.{change_simulates, ends_changes}
@@ -5,7 +6,7 @@ use Rattle.awk_evaluator.proofs.OperandPrints.{no_operand, some_operand, none_pr
 use Rattle.awk_evaluator.proofs.machine.Machine.print_each.Goals as goal
 
 pub returns-then-is_empty-clause-prints : goal.returns-then-is_empty-clause-prints
-returns-then-is_empty-clause-prints g c = none_printed c.args.operands.now c.print.result (no_operand c.args.operands.now (sym c.is_empty.ensures ∙ c.if-is_empty.true)) refl refl (λ functions. (c.print.ensures.follows functions).simulates)
+returns-then-is_empty-clause-prints g c = none_printed c.args.operands.now c.print.result (no_operand c.args.operands.now (sym c.is_empty.ensures ∙ c.if-is_empty.true)) refl (c.print.ensures.follows no_functions).callers (λ functions. (c.print.ensures.follows functions).simulates)
 
 pub returns-in_err-put_operands-clause-prints : goal.returns-in_err-put_operands-clause-prints
 returns-in_err-put_operands-clause-prints g c =
@@ -15,7 +16,7 @@ returns-in_err-put_operands-clause-prints g c =
 pub returns-then-hold_values-clause-prints : goal.returns-then-hold_values-clause-prints
 returns-then-hold_values-clause-prints g c =
     let there = some_operand c.args.operands.now (sym c.is_empty.ensures ∙ c.if-is_empty.false) in
-    operands_printed (Ok tt) there (c.in_ok-put_operands.ensures {u = tt}) c.newest-values.ensures c.drop.ensures refl (λ functions. (c.hold_values.ensures.follows c.if-hold_values.true functions).simulates)
+    operands_printed (Ok tt) there (c.in_ok-put_operands.ensures {u = tt}) c.newest-values.ensures c.drop.ensures (c.hold_values.ensures.follows c.if-hold_values.true no_functions).callers (λ functions. (c.hold_values.ensures.follows c.if-hold_values.true functions).simulates)
 
 pub returns-in_err-print-clause-prints : goal.returns-in_err-print-clause-prints
 returns-in_err-print-clause-prints g c =
@@ -28,4 +29,4 @@ pub returns-clause-prints : goal.returns-clause-prints
 returns-clause-prints g c =
     let there = some_operand c.args.operands.now (sym c.is_empty.ensures ∙ c.if-is_empty.false) in
     let kept = c.hold_values.ensures.kept c.if-hold_values.false in
-    operands_printed (Ok tt) there (c.in_ok-put_operands.ensures {u = tt}) c.newest-values.ensures c.drop-2.ensures refl (λ functions. (rw kept at (c.in_ok-print.ensures.follows functions)).simulates)
+    operands_printed (Ok tt) there (c.in_ok-put_operands.ensures {u = tt}) c.newest-values.ensures c.drop-2.ensures (rw kept at (c.in_ok-print.ensures.follows no_functions)).callers (λ functions. (rw kept at (c.in_ok-print.ensures.follows functions)).simulates)

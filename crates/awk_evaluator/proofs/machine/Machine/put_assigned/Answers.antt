@@ -9,4 +9,4 @@ returns-clause-puts c = λ _.
     let made : to_z w128 (of_z w128 c.in-Some-assign_number.z) ≡ c.in-Some-assign_number.z = search rules in
     let assigned = c.in-Some-assign_number.ensures.some in
     let replaced = c.replace_by.ensures in
-    assigned_puts c.args.operator c.args.variable.now c.in-Some.ensures (rw (number, c.operator_of.ensures) at assigned) (rw made at replaced) refl
+    assigned_puts c.args.operator c.args.variable.now c.in-Some.ensures (rw (number, c.operator_of.ensures) at assigned) (rw made at replaced) c.in-Some-assign_number.ensures.some.callers

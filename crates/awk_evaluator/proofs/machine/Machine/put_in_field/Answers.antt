@@ -11,4 +11,4 @@ returns-clause-puts c = λ _.
     let made : to_z w128 (of_z w128 c.in-Some-number.n) ≡ c.in-Some-number.n = search rules in
     let put = (c.if-not-put_number_in_field.ensures {u = tt}).put refl in
     let replaced = c.replace_by.ensures in
-    field_assigned_puts c.in-Some.ensures c.in-Some-number.ensures (rw (number, made) at put) ((rw made at replaced) ∙ ap (λ (o : OperandsView). record o { values = Number c.in-Some-number.n ∷ drop 1 o.values }) c.pop.ensures.rest) refl
+    field_assigned_puts c.in-Some.ensures c.in-Some-number.ensures (rw (number, made) at put) ((rw made at replaced) ∙ ap (λ (o : OperandsView). record o { values = Number c.in-Some-number.n ∷ drop 1 o.values }) c.pop.ensures.rest) put.callers

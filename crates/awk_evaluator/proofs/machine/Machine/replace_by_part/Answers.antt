@@ -9,7 +9,7 @@ pub returns-then-count-eq1-clause-puts : goal.returns-then-count-eq1-clause-puts
 returns-then-count-eq1-clause-puts c = λ _.
     let same = c.part_at.ensures.same in
     let replaced = c.replace.ensures ∙ ap (λ (m : Machine). record m.operands { values = c.in-Some-part_at.part ∷ drop 1 m.operands.values }) same in
-    part_replaces c.in-Some.positions c.args.count c.in-Some-part_at.ensures.some c.in-Some.ensures.are (rw c.if-count-eq1.true replaced) (ap (λ (m : Machine). m.calls) same) (ap (λ (m : Machine). m.runtime) same)
+    part_replaces c.in-Some.positions c.args.count c.in-Some-part_at.ensures.some c.in-Some.ensures.are (rw c.if-count-eq1.true replaced) (ap (λ (m : Machine). m.runtime.frames.callers) same) (ap (λ (m : Machine). m.runtime) same)
 
 pub returns-clause-puts : goal.returns-clause-puts
 returns-clause-puts c = λ _.
@@ -20,4 +20,4 @@ returns-clause-puts c = λ _.
     ∙ ap (λ (o : OperandsView). record o { values = part ∷ drop 1 o.values }) c.pop.ensures.rest
     ∙ ap (λ (m : Machine). record m.operands { values = part ∷ drop 1 (drop 1 m.operands.values) }) same
     ∙ ap (λ (vs : List Value). record c.args.self.now.operands { values = part ∷ vs }) (two_dropped c.in-Some.positions c.args.count c.in-Some.ensures.count c.if-count-eq1.false c.args.self.now.operands.values) in
-    part_replaces c.in-Some.positions c.args.count c.in-Some-part_at.ensures.some c.in-Some.ensures.are replaced (ap (λ (m : Machine). m.calls) same) (ap (λ (m : Machine). m.runtime) same)
+    part_replaces c.in-Some.positions c.args.count c.in-Some-part_at.ensures.some c.in-Some.ensures.are replaced (ap (λ (m : Machine). m.runtime.frames.callers) same) (ap (λ (m : Machine). m.runtime) same)

@@ -1,3 +1,4 @@
+use Rattle.awk_evaluator.proofs.Moving.{no_tables}
 use Rattle.std.proofs.Common.{◌≡◌, ◌+◌, suc, List, drop, ap, sym, ◌∙◌}
 use Rattle.awk_value.specs.declared.value.Value.{Value}
 use Rattle.awk_resolve.specs.Nodes.{first, operands, pattern_operands}
@@ -16,7 +17,7 @@ returns-then-operand_count-eq0 c =
     let count : suc (operands c.args.place) + suc (pattern_operands c.args.ere) ≡ 1 + suc (pattern_operands c.args.ere) = ap (λ n. suc n + suc (pattern_operands c.args.ere)) none in
     computed _
     (c.exchange.ensures.rest ∙ (ap (λ (o : OperandsView). record o { values = drop (pattern_operands c.args.ere) o.values }) left ∙ ap (λ (l : List Value). record { values = l; below = below }) (substitute_drop c.args.ere 1 _ vs count)))
-    c.exchange.ensures.calls
+    (c.exchange.ensures.changes no_tables).callers
     (λ tables functions. in_place (tables_in c.args.self.now.runtime.names tables) c.args.all c.args.ere c.args.place vs (drop 1 vs) _ _ _ _ (next ∙ second_is vs) c.pop-old.ensures.top next (ap (λ (o : OperandsView). o.values) left) (ap (λ n. drop (suc n) vs) (sym none)) (c.exchange.ensures.changes tables))
 
 pub returns : goal.returns
@@ -31,5 +32,5 @@ returns c =
     let count : suc (operands c.args.place) + suc (pattern_operands c.args.ere) ≡ 2 + suc (pattern_operands c.args.ere) = ap (λ n. suc n + suc (pattern_operands c.args.ere)) one in
     computed _
     (c.exchange-2.ensures.rest ∙ (ap (λ (o : OperandsView). record o { values = drop (pattern_operands c.args.ere) o.values }) rest ∙ ap (λ (l : List Value). record { values = l; below = below }) (substitute_drop c.args.ere 2 _ vs count)))
-    c.exchange-2.ensures.calls
+    (c.exchange-2.ensures.changes no_tables).callers
     (λ tables functions. in_place (tables_in c.args.self.now.runtime.names tables) c.args.all c.args.ere c.args.place vs (drop 2 vs) _ _ _ _ (next ∙ second_is vs) c.pop-old.ensures.top third (ap (λ (o : OperandsView). o.values) rest) (ap (λ n. drop (suc n) vs) (sym one)) (c.exchange-2.ensures.changes tables))

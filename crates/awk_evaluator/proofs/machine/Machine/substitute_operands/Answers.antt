@@ -1,4 +1,4 @@
-use Rattle.std.proofs.Common.{◌∙◌, sym, refl, arith}
+use Rattle.std.proofs.Common.{◌∙◌, sym, arith}
 use Rattle.std.proofs.lemmas.Result.{err_from_is_err_and}
 use Rattle.awk_evaluator.proofs.Joining.{two_items}
 use Rattle.awk_evaluator.proofs.Substituting.{substituted_puts, substitute_ends}
@@ -13,4 +13,4 @@ returns-in_err-count-clause-ended c =
 pub returns-clause-puts : goal.returns-clause-puts
 returns-clause-puts c = λ _.
     let two = sym c.newest.ensures ∙ two_items c.newest.result.now c.replacement-item.result c.old-item.result (omega (arith, c.in-len2.len_at_least)) (omega (arith, c.in-len2.len_below)) c.replacement-item.is c.old-item.is in
-    substituted_puts _ _ _ _ _ two (λ tables. c.in_ok-count.ensures) (rw c.pop.ensures.rest at c.replace.ensures) refl
+    substituted_puts _ _ _ _ _ two (λ tables. c.in_ok-count.ensures) (rw c.pop.ensures.rest at c.replace.ensures) c.in_ok-count.ensures.callers

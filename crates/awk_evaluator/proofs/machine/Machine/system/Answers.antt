@@ -15,4 +15,4 @@ returns-in_err-run_command-clause-evaluates g c =
 pub returns-clause-evaluates : goal.returns-clause-evaluates
 returns-clause-evaluates g c =
     let same : to_z w128 (of_z w128 c.in_ok-run_command.field-0) ≡ c.in_ok-run_command.field-0 = omega (arith, ints) in
-    rw same (evaluated (Ok _) c.pop-command.ensures.rest refl (λ tables functions. rw (← c.pop-command.ensures.top) (then_simulates _ c.in_ok-run_command.ensures.follows.simulates (lift_simulates (Ok _) _ _ refl))))
+    rw same (evaluated (Ok _) c.pop-command.ensures.rest c.in_ok-run_command.ensures.follows.callers (λ tables functions. rw (← c.pop-command.ensures.top) (then_simulates _ c.in_ok-run_command.ensures.follows.simulates (lift_simulates (Ok _) _ _ refl))))

@@ -13,4 +13,4 @@ invariant-returns g l =
     }
 
 abbrev pub decreases-returns : goal.decreases-returns
-decreases-returns g l = length l.self.calls
+decreases-returns g l = length l.self.runtime.frames.callers

@@ -10,7 +10,7 @@ invariant-moves g l =
     record {
       ready : IsReady g.W.World.is_logged (state l.world) l.self.runtime.streams;
       leads : Leads g.W.World.is_logged l.plan (AtPlace l.fn.start) l.fn.self (state l.fn.world) l.at l.self (state l.world);
-      calls : l.self.calls ≡ l.fn.self.calls;
+      calls : l.self.runtime.frames.callers ≡ l.fn.self.runtime.frames.callers;
       here : Some l.node ≡ slice_get l.plan.nodes.items l.at;
     }
 

@@ -11,7 +11,7 @@ use Rattle.awk_runtime.proofs.runtime.Runtime.append_in_place.Goals as goal
 pub returns-in_err-append_each-clause-refused : goal.returns-in_err-append_each-clause-refused
 returns-in_err-append_each-clause-refused c =
     let p = err_from_is_err_and c.from_residual.result c.from_residual.ensures.1 in
-    rw (p.1, p.2, (c.in_err-append_each.ensures {u = tt}).fault) (λ run. memory_changes run refl refl (omega arith))
+    rw (p.1, p.2, (c.in_err-append_each.ensures {u = tt}).fault) (λ run. memory_changes run refl refl refl (omega arith))
 
 pub returns-clause-appends : goal.returns-clause-appends
 returns-clause-appends c = λ _.

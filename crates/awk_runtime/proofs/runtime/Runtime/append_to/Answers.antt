@@ -8,7 +8,7 @@ pub returns-in_err-text : goal.returns-in_err-text
 returns-in_err-text c =
     let p = err_from_is_err_and c.from_residual.result c.from_residual.ensures.1 in
     let free = c.let_go.ensures in
-    rw (p.1, p.2, c.in_err-text.ensures.fault) (memory_changes _ free.streams free.names (omega (arith, free.steps)))
+    rw (p.1, p.2, c.in_err-text.ensures.fault) (memory_changes _ free.streams free.names free.callers (omega (arith, free.steps)))
 
 pub returns-in_err-put_variable : goal.returns-in_err-put_variable
 returns-in_err-put_variable c =

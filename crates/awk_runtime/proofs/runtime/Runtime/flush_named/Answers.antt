@@ -1,4 +1,4 @@
-use Rattle.std.proofs.Common.{true, false, ◌∙◌}
+use Rattle.std.proofs.Common.{true, false, ◌∙◌, refl}
 use Rattle.std.proofs.lemmas.Result.{err_from_is_err_and}
 use Rattle.awk_runtime.proofs.Composition.{memory_simulates}
 use Rattle.awk_runtime.proofs.Flushes.{flush_follows, flush_fails}
@@ -8,7 +8,7 @@ use Rattle.awk_runtime.proofs.runtime.Runtime.flush_named.Goals as goal
 pub returns-in_err-name-clause-follows : goal.returns-in_err-name-clause-follows
 returns-in_err-name-clause-follows g c =
     let p = err_from_is_err_and c.from_residual.result c.from_residual.ensures.1 in
-    rw (p.1, p.2, c.in_err-name.ensures.fault) (record { simulates = memory_simulates c.args.self.now (g.W.World.state c.args.world.now) _ })
+    rw (p.1, p.2, c.in_err-name.ensures.fault) (record { simulates = memory_simulates c.args.self.now (g.W.World.state c.args.world.now) _; callers = refl })
 
 pub returns-in_err-flush-clause-follows : goal.returns-in_err-flush-clause-follows
 returns-in_err-flush-clause-follows g c =

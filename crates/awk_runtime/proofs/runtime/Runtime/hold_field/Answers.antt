@@ -31,7 +31,7 @@ returns-clause-follows g c = λ holds functions.
     let read = field_changes c.args.number (still m) (ap of_record (rw number at c.in-Some.ensures.field)) in
     let front = append-nil (stretch_at m.current.text span) ∙ sym (ap (λ t. stretch_at t span) (c.as_slice.ensures ∙ c.in-Some-text_at_hand.ensures ∙ ap (λ (r : RecordPair). r.text) c.stretch.ensures.same)) in
     let printed = printed_to_output (λ n. print_line n (w ∷ [])) (values_printed (Ok tt) target.StandardOutput (w ∷ []) _ (line_of_text (str_of (value_of m.specials (name_of Ofs))) _ _ c.as_slice-2.result.now (w ∷ []) front (sym (ap str_of c.special.ensures) ∙ c.in-Some-text_at_hand-2.ensures ∙ sym c.as_slice-2.ensures)) (written _ _ _ _) (λ t. c.hold.ensures.told holds _ c.requires.ready.are_open (c.requires.ready.are_sound t)) tt) in
-    rw c.stretch.ensures.same (record { simulates = then_simulates (λ x. ret 0 >>= λ n. print_by functions Print n (x ∷ [])) (change_simulates read) printed.simulates })
+    rw c.stretch.ensures.same (record { simulates = then_simulates (λ x. ret 0 >>= λ n. print_by functions Print n (x ∷ [])) (change_simulates read) printed.simulates; callers = printed.callers })
 
 pub returns-then-number-eq0-clause-follows : goal.returns-then-number-eq0-clause-follows
 returns-then-number-eq0-clause-follows g c = λ holds functions.

@@ -1,4 +1,4 @@
-use Rattle.std.proofs.Common.{Ok, Err, ap, ◌∙◌}
+use Rattle.std.proofs.Common.{Ok, Err, ap, ◌∙◌, refl}
 use Rattle.std.proofs.lemmas.Result.{err_from_is_err_and}
 use Rattle.awk_value.specs.Values.{str_of}
 use Rattle.awk_runtime.proofs.Composition.{memory_simulates}
@@ -9,12 +9,12 @@ use Rattle.awk_runtime.proofs.runtime.Runtime.next_of_any.Goals as goal
 pub returns-in_err-name-clause-follows : goal.returns-in_err-name-clause-follows
 returns-in_err-name-clause-follows g c =
     let p = err_from_is_err_and c.from_residual.result c.from_residual.ensures.1 in
-    rw (p.1, p.2, c.in_err-name.ensures.fault) (record { simulates = memory_simulates c.args.self.now (g.W.World.state c.args.world.now) _ })
+    rw (p.1, p.2, c.in_err-name.ensures.fault) (record { simulates = memory_simulates c.args.self.now (g.W.World.state c.args.world.now) _; callers = refl })
 
 pub returns-in_err-separator-clause-follows : goal.returns-in_err-separator-clause-follows
 returns-in_err-separator-clause-follows g c =
     let p = err_from_is_err_and c.from_residual-in_err-separator.result c.from_residual-in_err-separator.ensures.1 in
-    rw (p.1, p.2, c.in_err-separator.ensures.fault) (record { simulates = memory_simulates c.args.self.now (g.W.World.state c.args.world.now) _ })
+    rw (p.1, p.2, c.in_err-separator.ensures.fault) (record { simulates = memory_simulates c.args.self.now (g.W.World.state c.args.world.now) _; callers = refl })
 
 pub returns-in_err-next_named-clause-follows : goal.returns-in_err-next_named-clause-follows
 returns-in_err-next_named-clause-follows g c =

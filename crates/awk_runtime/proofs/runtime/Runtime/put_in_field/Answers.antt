@@ -11,7 +11,7 @@ use Rattle.awk_runtime.proofs.runtime.Runtime.put_in_field.Goals as goal
 pub returns-in_err-separator-clause-changes : goal.returns-in_err-separator-clause-changes
 returns-in_err-separator-clause-changes c =
     let p = err_from_is_err_and c.from_residual.result c.from_residual.ensures.1 in
-    rw (p.1, p.2, c.in_err-separator.ensures.fault) (memory_changes _ refl refl (omega arith))
+    rw (p.1, p.2, c.in_err-separator.ensures.fault) (memory_changes _ refl refl refl (omega arith))
 
 pub returns-in_err-set_field-clause-changes : goal.returns-in_err-set_field-clause-changes
 returns-in_err-set_field-clause-changes c =

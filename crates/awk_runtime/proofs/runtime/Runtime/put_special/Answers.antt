@@ -7,7 +7,7 @@ use Rattle.awk_runtime.proofs.runtime.Runtime.put_special.Goals as goal
 pub returns-in_err-value : goal.returns-in_err-value
 returns-in_err-value c =
     let p = err_from_is_err_and c.from_residual.result c.from_residual.ensures.1 in
-    rw (p.1, p.2) (memory_changes _ refl refl (omega arith))
+    rw (p.1, p.2) (memory_changes _ refl refl refl (omega arith))
 
 pub returns-in_err-set_special : goal.returns-in_err-set_special
 returns-in_err-set_special c =

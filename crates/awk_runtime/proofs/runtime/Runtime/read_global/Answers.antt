@@ -9,7 +9,7 @@ use Rattle.awk_runtime.proofs.runtime.Runtime.read_global.Goals as goal
 pub returns-in_err-clone-in-Some : goal.returns-in_err-clone-in-Some
 returns-in_err-clone-in-Some c =
     let p = err_from_is_err_and c.from_residual.result c.from_residual.ensures.1 in
-    rw (p.1, p.2) (memory_changes _ refl refl (omega arith))
+    rw (p.1, p.2) (memory_changes _ refl refl refl (omega arith))
 
 pub returns-in_ok-clone-in-Some : goal.returns-in_ok-clone-in-Some
 returns-in_ok-clone-in-Some c =

@@ -1,6 +1,6 @@
 use mir.Syntax.{w128}
 use mir.Val.{to_z, of_z}
-use Rattle.std.proofs.Common.{rules, ◌≡◌, Ok, Err, ◌∙◌}
+use Rattle.std.proofs.Common.{rules, ◌≡◌, Ok, Err, ◌∙◌, refl}
 use Rattle.std.proofs.lemmas.Result.{err_from_is_err_and}
 use Rattle.awk_runtime.proofs.Composition.{memory_simulates}
 use Rattle.awk_runtime.proofs.Turns.{written}
@@ -10,7 +10,7 @@ use Rattle.awk_runtime.proofs.runtime.Runtime.run_command.Goals as goal
 pub returns-in_err-command-clause-follows : goal.returns-in_err-command-clause-follows
 returns-in_err-command-clause-follows g c =
     let p = err_from_is_err_and c.from_residual.result c.from_residual.ensures.1 in
-    rw (p.1, p.2, c.in_err-command.ensures.fault) (record { simulates = memory_simulates c.args.self.now (g.W.World.state c.args.world.now) _ })
+    rw (p.1, p.2, c.in_err-command.ensures.fault) (record { simulates = memory_simulates c.args.self.now (g.W.World.state c.args.world.now) _; callers = refl })
 
 pub returns-in_err-run-clause-follows : goal.returns-in_err-run-clause-follows
 returns-in_err-run-clause-follows g c =

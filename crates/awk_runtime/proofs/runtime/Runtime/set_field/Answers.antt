@@ -9,7 +9,7 @@ use Rattle.awk_runtime.proofs.runtime.Runtime.set_field.Goals as goal
 pub returns-in_err-text_of : goal.returns-in_err-text_of
 returns-in_err-text_of c =
     let p = err_from_is_err_and c.from_residual.result c.from_residual.ensures.1 in
-    rw (p.1, p.2, c.in_err-text_of.ensures.fault) (memory_changes _ refl refl (omega arith))
+    rw (p.1, p.2, c.in_err-text_of.ensures.fault) (memory_changes _ refl refl refl (omega arith))
 
 pub returns-then-number-eq0 : goal.returns-then-number-eq0
 returns-then-number-eq0 c =

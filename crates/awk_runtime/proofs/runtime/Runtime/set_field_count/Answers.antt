@@ -15,7 +15,7 @@ returns-in_err-count c =
 pub returns-in_err-separator : goal.returns-in_err-separator
 returns-in_err-separator c =
     let p = err_from_is_err_and c.from_residual-in_err-separator.result c.from_residual-in_err-separator.ensures.1 in
-    rw (p.1, p.2, c.in_err-separator.ensures.fault) (memory_changes _ refl refl (omega arith))
+    rw (p.1, p.2, c.in_err-separator.ensures.fault) (memory_changes _ refl refl refl (omega arith))
 
 pub returns-in_err-set_count : goal.returns-in_err-set_count
 returns-in_err-set_count c =

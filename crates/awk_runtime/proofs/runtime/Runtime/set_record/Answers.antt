@@ -10,4 +10,4 @@ returns c = record_changes _ _ (λ i. record { text = c.field_separator-separato
 pub returns-in_err-set_text : goal.returns-in_err-set_text
 returns-in_err-set_text c =
     let p = err_from_is_err_and c.from_residual.result c.from_residual.ensures.1 in
-    rw (p.1, p.2, accepted_rule c.in_err-set_text.field-0.0 _ c.in_err-set_text.ensures.refused c.field_separator-separator.ensures.accepted) (memory_changes _ refl refl (omega arith))
+    rw (p.1, p.2, accepted_rule c.in_err-set_text.field-0.0 _ c.in_err-set_text.ensures.refused c.field_separator-separator.ensures.accepted) (memory_changes _ refl refl refl (omega arith))

@@ -19,7 +19,7 @@ returns-then-self-count c =
 pub returns-in_err-argument : goal.returns-in_err-argument
 returns-in_err-argument c =
     let p = err_from_is_err_and c.from_residual-in_err-argument.result c.from_residual-in_err-argument.ensures.1 in
-    rw (p.1, p.2, c.in_err-argument.ensures.memory) (memory_changes _ refl refl (omega arith))
+    rw (p.1, p.2, c.in_err-argument.ensures.memory) (memory_changes _ refl refl refl (omega arith))
 
 pub returns : goal.returns
 returns c =
