@@ -6,6 +6,7 @@ ghost use Rattle.awk_value.specs.declared.value.Value.TheVariants.{Nothing, Numb
 ghost use Rattle.awk_resolve.specs.Nodes.{first, second, taken};
 ghost use Rattle.awk_evaluator.specs.support.Operands.{all_of};
 
+use awk_storage::room;
 use awk_value::Value;
 use std::alloc::{AllocError, Global};
 use std::marker::Model;
@@ -57,8 +58,7 @@ impl Operands {
         ensures pushed { OnOk result (self.new ≡ record self.old { values = value ∷ self.old.values }) }
         ensures unchanged { OnErr result (self.new ≡ self.old) }
     {
-        self.values.push(value)?;
-        Ok(())
+        room::push(&mut self.values, value)
     }
 
     /// Puts a copy of a value on top. `false`, and nothing changes, where memory is refused.

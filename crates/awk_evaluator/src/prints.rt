@@ -1,7 +1,6 @@
 // A print of operands that are read where they stand: no value is made of them.
 
 ghost use Rattle.std.specs.Prelude.{◌≡◌, ◌++◌, [], Ok, true, false};
-ghost use Rattle.awk_value.specs.Values.{str_of};
 ghost use Rattle.awk_runtime.specs.Simulation.{IsReady};
 ghost use Rattle.awk_runtime.specs.Lines.{AppendsText};
 ghost use Rattle.awk_resolve.specs.Nodes.{operand_value};
@@ -10,16 +9,8 @@ ghost use Rattle.awk_evaluator.specs.Lines.{AppendsTexts, AppendsBehind, SameMac
 
 use crate::machine::Machine;
 use awk_resolve::node::Operand;
+use awk_runtime::append_value;
 use awk_streams::World;
-use awk_value::{Value, append_text};
-
-/// Appends the text of a value to a line. `false` where memory is refused.
-#[inline(always)]
-fn append_value(line: &mut Vec<u8>, value: &Value) -> bool
-    ensures { result ≡ true → line.new.items ≡ line.old.items ++ str_of value.now }
-{
-    append_text(value, line).is_ok()
-}
 
 impl Machine {
     /// Prints operands as a line to standard output, where all are at hand and the line can be held back: nothing is asked of the
@@ -111,10 +102,12 @@ impl Machine {
         if let Some(number) = self.field_number_of(operand) {
             return self.runtime.join_field(line, number);
         }
+        if let Some(value) = self.value_at(operand) {
+            return append_value(line, value);
+        }
         match operand {
-            Operand::Constant(value) => append_value(line, value),
             Operand::Variable(variable) => self.runtime.join_variable(line, *variable),
-            Operand::Field(_) | Operand::FieldAt(_) => false,
+            Operand::Constant(_) | Operand::Field(_) | Operand::FieldAt(_) => false,
         }
     }
 }

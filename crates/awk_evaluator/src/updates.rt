@@ -306,20 +306,14 @@ impl Machine {
     fn assign_slot(&mut self, slot: u32) -> bool
         ensures { Done (λ r. Computes (Assign AssignmentOperator.Plain (Place.Variable (Variable.Global slot))) self.old r self.new) (came result self.new) }
     {
-        self.assign_variable(Variable::Global(slot))
+        let value = self.operands.pop();
+        let assigned = self.runtime.assign_global(slot, value);
+        self.is_done(assigned)
     }
 
     /// The same of any variable.
     #[inline(never)]
     fn assign_any(&mut self, variable: Variable) -> bool
-        ensures { Done (λ r. Computes (Assign AssignmentOperator.Plain (Place.Variable variable)) self.old r self.new) (came result self.new) }
-    {
-        self.assign_variable(variable)
-    }
-
-    /// Assigns the topmost value to a variable, which isn't read again.
-    #[inline(always)]
-    fn assign_variable(&mut self, variable: Variable) -> bool
         ensures { Done (λ r. Computes (Assign AssignmentOperator.Plain (Place.Variable variable)) self.old r self.new) (came result self.new) }
     {
         let value = self.operands.pop();

@@ -138,6 +138,7 @@ impl Patterns {
     }
 
     // The pattern that stands in the program here, which is read where it is used first.
+    #[inline(always)]
     fn fixed_pattern(&mut self, number: usize, text: &[u8]) -> Result<&mut Compiled, Halt>
         ensures { ReadsFor text.now (λ c. c.now.text) result }
     {
@@ -146,6 +147,14 @@ impl Patterns {
                 return Ok(kept);
             }
         }
+        self.new_pattern(number, text)
+    }
+
+    // The same of one that wasn't read yet.
+    #[inline(never)]
+    fn new_pattern(&mut self, number: usize, text: &[u8]) -> Result<&mut Compiled, Halt>
+        ensures { ReadsFor text.now (λ c. c.now.text) result }
+    {
         let compiled = self.read(Bytes::from_slice(self.alloc, text)?)?;
         reserve_place(&mut self.fixed, number)?;
         Ok(self.fixed[number].insert(compiled))

@@ -24,6 +24,7 @@ mod texts;
 mod variables;
 
 pub use keys::ElementKey;
+pub use lines::append_value;
 pub use names::{ProgramNames, add_name, array_names, function_names};
 pub use passing::Unwanted;
 pub use runtime::Runtime;

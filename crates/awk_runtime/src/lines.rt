@@ -57,6 +57,22 @@ fn append_bytes(line: &mut Vec<u8>, bytes: &[u8]) -> bool
     }
 }
 
+/// Appends the text of a value to a line, and few bytes by a copy of a fixed size, for which room is made. `false` where memory is refused.
+#[inline(always)]
+pub fn append_value(line: &mut Vec<u8>, value: &Value) -> bool
+    ensures { result ≡ true → line.new.items ≡ line.old.items ++ str_of value.now }
+{
+    if line.capacity() - line.len() < FIXED && line.reserve(FIXED).is_err() {
+        return false;
+    }
+    if let Value::Text(text) | Value::Input(text) = value
+        && text.put_within(line, usize::MAX)
+    {
+        return true;
+    }
+    append_text(value, line).is_ok()
+}
+
 impl Runtime {
     /// Lends the memory of the line that prints make, which is empty. `take_line_back` follows.
     #[inline(always)]
@@ -115,15 +131,12 @@ impl Runtime {
         }
     }
 
-    /// Appends the text of a variable to a line. `false` where it isn't at hand, or memory is refused.
-    #[inline(always)]
+    /// Appends the text of a variable whose number is found to a line. `false` where it isn't at hand, or memory is refused.
+    #[inline(never)]
     pub fn join_variable(&mut self, line: &mut Vec<u8>, variable: Variable) -> bool
         ensures appends { result ≡ true → AppendsText (read_variable self.old.names.scalars variable) self.old line.old.items line.new.items }
         ensures same { self.new ≡ self.old }
     {
-        if let Some(value) = self.value_in(variable) {
-            return append_text(value, line).is_ok();
-        }
         match self.number_in(variable) {
             Some(n) => append_text(&Value::Number(n), line).is_ok(),
             None => false,

@@ -235,6 +235,7 @@ impl Runtime {
     }
 
     /// The same in the record. (POSIX awk, String Functions: sub, gsub)
+    #[inline(always)]
     pub fn substitute_in_record(
         &mut self,
         all: bool,
@@ -254,6 +255,7 @@ impl Runtime {
     }
 
     // The record's text with its first match exchanged, or with `all` each match, and how many that are.
+    #[inline(always)]
     fn exchange_in_record(
         &mut self,
         all: bool,

@@ -11,6 +11,7 @@ ghost use Rattle.awk_storage.specs.Positions.{read_variable, put_variable, read_
 ghost use Rattle.awk_lex.specs.Escapes.{unescaped};
 ghost use Rattle.awk_storage.specs.Positions.{assign_by_at};
 ghost use Rattle.awk_storage.specs.declared.position.Place.TheVariants.{Variable as VariablePlace};
+ghost use Rattle.awk_storage.specs.declared.position.Variable.TheVariants.{Global as GlobalVariable};
 ghost use Rattle.awk_value.specs.declared.value.Value.TheVariants.{Nothing};
 ghost use Rattle.awk_runtime.specs.support.Updates.{Gives};
 
@@ -111,6 +112,19 @@ impl Runtime {
             return Ok(());
         }
         self.read_variable(variable)?;
+        Ok(())
+    }
+
+    /// The same of a variable of the program, by its slot.
+    #[inline(always)]
+    pub fn assign_global(&mut self, slot: u32, value: Value) -> Result<(), Halt>
+        ensures { Gives (assign_by_at self.old.names.scalars None (VariablePlace (GlobalVariable slot)) Nothing value) self.old result self.new }
+    {
+        self.put_global(slot as usize, value)?;
+        if let Some(_) = self.value_in(Variable::Global(slot)) {
+            return Ok(());
+        }
+        self.read_variable(Variable::Global(slot))?;
         Ok(())
     }
 
