@@ -27,7 +27,6 @@ fn separator_text(alloc: Global, value: &Value) -> Result<Bytes, TextFault>
 }
 
 // Whether the text of a value is empty.
-#[inline(always)]
 fn is_empty(value: &Value) -> bool
     ensures { result ≡ (length (str_of value.now) == 0) }
 {
@@ -35,6 +34,31 @@ fn is_empty(value: &Value) -> bool
         Value::Nothing => true,
         Value::Number(_) => false,
         Value::Text(text) | Value::Input(text) => text.is_empty(),
+    }
+}
+
+// The byte that the text of a value is, where it is one byte.
+fn only_byte(value: &Value) -> Option<u8>
+    ensures { IfSome result (λ byte. str_of value.now ≡ byte ∷ []) }
+{
+    match value {
+        Value::Text(text) | Value::Input(text) => match text.as_slice() {
+            [byte] => Some(*byte),
+            _ => None,
+        },
+        Value::Nothing | Value::Number(_) => None,
+    }
+}
+
+// Makes a value a number. One that is a number is no more than overwritten.
+#[inline(always)]
+fn set_number(place: &mut Value, number: i128)
+    ensures { place.new ≡ Value.Number number }
+{
+    if let Value::Number(old) = place {
+        *old = number;
+    } else {
+        *place = Value::Number(number);
     }
 }
 
@@ -84,18 +108,25 @@ pub struct Variables {
     specials: [Value; 13],
     // the text of FS, which is a field separator
     field_separator: Bytes,
+    // the byte that RS is, where it is one byte
+    record_separator_byte: Option<u8>,
+    // whether RS is empty
+    newlines_separate: bool,
     alloc: Global,
 }
 
 impl Model for Variables {
+    ghost use Rattle.std.specs.Prelude.{◌≡◌, ◌==◌, [], ◌∷◌, length, IfSome};
     ghost use Rattle.awk_kinds.specs.definitions.Variables.{Pairs};
-    ghost use Rattle.awk_storage.specs.support.SpecialValues.{special_pairs, IsSeparator};
+    ghost use Rattle.awk_storage.specs.support.SpecialValues.{special_pairs, record_separator, IsSeparator};
 
     ghost Value = { Pairs };
 
     ghost view = { λ v. special_pairs v.specials };
 
-    ghost invariant = { λ v. IsSeparator v.specials v.field_separator };
+    ghost invariant = { λ v. IsSeparator v.specials v.field_separator
+        × IfSome v.record_separator_byte (λ byte. record_separator v.specials ≡ byte ∷ [])
+        × (v.newlines_separate ≡ (length (record_separator v.specials) == 0)) };
 }
 
 impl Variables {
@@ -108,9 +139,15 @@ impl Variables {
         ensures memory { IfErr result (λ e. e ≡ TextFault.Memory) }
     {
         let specials = initial_specials(alloc, arguments)?;
+        let field_separator = Bytes::from_slice(alloc, b" ")?;
+        let record_separator = &specials[Special::Rs.index()];
+        let record_separator_byte = only_byte(record_separator);
+        let newlines_separate = is_empty(record_separator);
         Ok(Variables {
             specials,
-            field_separator: Bytes::from_slice(alloc, b" ")?,
+            field_separator,
+            record_separator_byte,
+            newlines_separate,
             alloc,
         })
     }
@@ -134,9 +171,16 @@ impl Variables {
         ensures absent { OnErr result (special ≡ Special.Fs) }
         ensures refused { result ≡ Err TextFault.Pattern → is_refused (name_of special) value ≡ true }
     {
-        if let Special::Fs = special {
-            let text = separator_text(self.alloc, &value)?;
-            drop(mem::replace(&mut self.field_separator, text));
+        match special {
+            Special::Fs => {
+                let text = separator_text(self.alloc, &value)?;
+                drop(mem::replace(&mut self.field_separator, text));
+            }
+            Special::Rs => {
+                self.record_separator_byte = only_byte(&value);
+                self.newlines_separate = is_empty(&value);
+            }
+            _ => {}
         }
         drop(mem::replace(&mut self.specials[special.index()], value));
         Ok(())
@@ -157,7 +201,7 @@ impl Variables {
     pub fn newlines_separate(&self) -> bool
         ensures { result ≡ (length (str_of (value_of self.now (name_of Special.Rs))) == 0) }
     {
-        is_empty(self.special(Special::Rs))
+        self.newlines_separate
     }
 
     /// The byte that RS is, where it is one byte. (POSIX awk, Variables and Special Variables: RS)
@@ -165,13 +209,7 @@ impl Variables {
     pub fn record_separator_byte(&self) -> Option<u8>
         ensures { IfSome result (λ byte. str_of (value_of self.now (name_of Special.Rs)) ≡ byte ∷ []) }
     {
-        match self.special(Special::Rs) {
-            Value::Text(text) | Value::Input(text) => match text.as_slice() {
-                [byte] => Some(*byte),
-                _ => None,
-            },
-            Value::Nothing | Value::Number(_) => None,
-        }
+        self.record_separator_byte
     }
 
     // NR and FNR, where both are counts that are not too large.
@@ -201,8 +239,8 @@ impl Variables {
         ensures { (x : List ℕ) → value_of self.new x ≡ with_value
             (with_value (value_of self.old) (name_of Special.Nr) (Value.Number all)) (name_of Special.Fnr) (Value.Number in_file) x }
     {
-        self.specials[Special::Nr.index()] = Value::Number(all);
-        self.specials[Special::Fnr.index()] = Value::Number(in_file);
+        set_number(&mut self.specials[Special::Nr.index()], all);
+        set_number(&mut self.specials[Special::Fnr.index()], in_file);
     }
 
     /// Counts so many records in NR and FNR, where both are counts that are not too large; else

@@ -6,7 +6,7 @@ use Rattle.awk_value.specs.Values.{str_of}
 use Rattle.awk_value.specs.declared.value.Value.{Value}
 use Rattle.awk_value.specs.declared.value.Value.TheVariants.{Nothing}
 use Rattle.awk_kinds.specs.declared.special.Special.{Special}
-use Rattle.awk_kinds.specs.declared.special.Special.TheVariants.{Fs}
+use Rattle.awk_kinds.specs.declared.special.Special.TheVariants.{Fs, Rs}
 use Rattle.awk_kinds.specs.definitions.Variables.{Pairs, name_of, initial_values}
 use Rattle.awk_kinds.specs.support.SpecialIndices.{all_specials, index_of}
 
@@ -24,3 +24,7 @@ initial_specials arguments = map (λ pair. pair.1) (initial_values arguments)
 -- this is the text of FS, and a field separator
 abbrev pub IsSeparator : List Value → (text : List ℕ) → Type 0
 IsSeparator values text = (text ≡ str_of (value_at values Fs)) × (is_err (separator_of text) ≡ false)
+
+-- the text of RS
+abbrev pub record_separator : List Value → List ℕ
+record_separator values = str_of (value_at values Rs)

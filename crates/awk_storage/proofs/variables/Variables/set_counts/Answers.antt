@@ -1,6 +1,4 @@
 use Rattle.std.proofs.Common.{◌≡◌, ap, ◌∙◌, rules, length, set}
-use Rattle.std.proofs.lemmas.Int.{to_z-of_z}
-use mir.Syntax.{w128}
 use Rattle.awk_value.specs.declared.value.Value.TheVariants.{Number}
 use Rattle.awk_kinds.specs.definitions.Variables.{value_of, with_value, name_of, Pairs}
 use Rattle.awk_kinds.specs.declared.special.Special.TheVariants.{Nr, Fnr}
@@ -14,6 +12,8 @@ returns c = λ x.
     let m = Number c.args.all in
     let n = Number c.args.in_file in
     let len : length inside.specials ≡ 13 = search rules in
-    (λ j. value_of (special_pairs (set (set inside.specials (c.index.ensures j) (Number (to_z-of_z w128 c.args.all c.ranges.all j))) (c.index-2.ensures j) (Number (to_z-of_z w128 c.args.in_file c.ranges.in_file j)))) x)
+    let nr : c.set_number.new.place ≡ m = search rules in
+    let fnr : c.set_number-2.new.place ≡ n = search rules in
+    (λ j. value_of (special_pairs (set (set inside.specials (c.index.ensures j) (nr j)) (c.index-2.ensures j) (fnr j))) x)
     ∙ value_of-set_counts inside.specials m n len x
     ∙ ap (λ (p : Pairs). with_value (with_value (value_of p) (name_of Nr) m) (name_of Fnr) n x) c.self.view_is

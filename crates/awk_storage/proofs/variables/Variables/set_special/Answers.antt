@@ -3,7 +3,7 @@ use Rattle.awk_kinds.specs.definitions.Variables.{value_of, with_value, name_of,
 use Rattle.awk_storage.specs.support.SpecialValues.{special_pairs}
 use Rattle.awk_storage.proofs.SpecialLemmas.{value_of-set_special}
 use Rattle.awk_storage.proofs.variables.Variables.set_special.Goals as goal
-use Rattle.awk_storage.proofs.variables.Variables.set_special.Goals.{in-Fs+in_ok-text, in_default}
+use Rattle.awk_storage.proofs.variables.Variables.set_special.Goals.{in-Fs+in_ok-text-in-Fs, in-Rs, in_default}
 
 pub returns-clause-set : goal.returns-clause-set
 returns-clause-set c = λ x.
@@ -11,7 +11,7 @@ returns-clause-set c = λ x.
     let v = c.args.value in
     let old = c.self.inside in
     let new = c.match-special.self-inside in
-    let specials : new.specials ≡ old.specials = elim c.match-special.branch [ in-Fs+in_ok-text w ↦ ap (λ i. i.specials) w.self-inside-is | in_default w ↦ ap (λ i. i.specials) w.self-inside-is ] in
+    let specials : new.specials ≡ old.specials = elim c.match-special.branch [ in-Fs+in_ok-text-in-Fs w ↦ ap (λ i. i.specials) w.self-inside-is | in-Rs w ↦ ap (λ i. i.specials) w.self-inside-is | in_default w ↦ ap (λ i. i.specials) w.self-inside-is ] in
     let len : length old.specials ≡ 13 = search rules in
     (λ j. value_of (special_pairs (set (specials j) (c.index.ensures j) (c.replace-2.ensures.after j))) x)
     ∙ value_of-set_special old.specials s v len x
