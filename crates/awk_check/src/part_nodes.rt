@@ -41,10 +41,12 @@ enum Stage {
 fn is_head(node: &Node) -> bool {
     matches!(
         node,
-        Node::Effect(EffectNode::Spend, _)
+        Node::Spend(_)
             | Node::Update(_, _, _, _)
             | Node::Increment(_, _, _)
             | Node::AppendOperands(_, _, _)
+            | Node::Effect(EffectNode::Exchange(_), _)
+            | Node::Print(_, _)
     )
 }
 

@@ -12,7 +12,7 @@ use Rattle.awk_streams.specs.WorldState.{WorldState}
 use Rattle.awk_kinds.specs.Kinds.{Definition}
 use Rattle.awk_semantics.specs.declared.halt.Halt.{Halt}
 use Rattle.awk_semantics.specs.State.{Run, ◌>>=◌}
-use Rattle.awk_semantics.specs.Primitives.{is_inside}
+use Rattle.awk_semantics.specs.Primitives.{spend}
 use Rattle.awk_semantics.specs.Semantics.{choose}
 use Rattle.awk_semantics.specs.Calls.{functions_within}
 use Rattle.awk_storage.specs.declared.position.Variable.{Variable}
@@ -23,20 +23,21 @@ use Rattle.awk_resolve.specs.declared.node.Operand.{Operand}
 use Rattle.awk_resolve.specs.declared.node.Node.{Node}
 use Rattle.awk_resolve.specs.declared.node.Node.TheVariants as n
 use Rattle.awk_resolve.specs.declared.node.Target.{Target}
+use Rattle.awk_resolve.specs.declared.node.Tested.{Tested}
 use Rattle.awk_resolve.specs.declared.node.ValueNode.{ValueNode}
 use Rattle.awk_resolve.specs.declared.node.ValueNode.TheVariants as v
 use Rattle.awk_resolve.specs.declared.plan.Plan.{Plan}
-use Rattle.awk_resolve.specs.Nodes.{Tables, taken, value_of, popped, append_to, append_by_step, print_operands, update, increment, AreBelow}
-use Rattle.awk_runtime.specs.Simulation.{IsReady, Changes}
-use Rattle.awk_runtime.proofs.Composition.{change_simulates}
+use Rattle.awk_resolve.specs.Nodes.{Tables, taken, value_of, popped, append_to, append_by_step, print_by_step, update, increment, asked, asked_operands, AreBelow}
+use Rattle.awk_runtime.specs.Simulation.{IsReady, Changes, Spends}
+use Rattle.awk_runtime.proofs.Composition.{change_simulates, ready_behind}
 use Rattle.awk_evaluator.specs.declared.machine.Machine.{Machine}
 use Rattle.awk_evaluator.specs.declared.machine.Move.TheVariants as move
 use Rattle.awk_evaluator.specs.Operands.{OperandsView}
 use Rattle.awk_evaluator.specs.Rest.{tables_in, Bound, AtNode, cont, begun}
 use Rattle.awk_evaluator.specs.Appending.{SpendsAndAppends}
 use Rattle.awk_evaluator.specs.Moves.{seen_of, Ends, Moves, Computes}
-use Rattle.awk_evaluator.specs.Reading.{ComparesBy, Compares, Updates, Increments, Appends, PrintsOperands}
-use Rattle.awk_evaluator.proofs.Moving.{leads_on, ends_on, chosen_below, chosen_cont, ready_computed}
+use Rattle.awk_evaluator.specs.Reading.{ComparesBy, Compares, Asks, Updates, Increments, Appends, SpendsAndPrints}
+use Rattle.awk_evaluator.proofs.Moving.{no_tables, leads_on, ends_on, chosen_below, chosen_cont, ready_computed}
 
 -- a variable has no operand
 pub variable_alike : (names : List (List ℕ)) (o : Option Operator) (x : Variable) (operand operand' w : Value) → assign_by_at names o (place.Variable x) operand w ≡ assign_by_at names o (place.Variable x) operand' w
@@ -51,6 +52,9 @@ ready_compared {is_logged = is_logged} {x = x} {m = m} {m' = m'} {k = k} {r = r}
     by : (q : Result Bool Halt) → ComparesBy x m q m' → IsReady is_logged k m'.runtime.streams
     by (Ok holds) d = ready_computed d.2 ready
     by (Err h) d = ready_computed d ready
+
+pub ready_asked : {is_logged : Type 0} {x : Tested} {m m' : Machine} {k : WorldState} {r : Result Bool Halt} → Asks x m r m' → IsReady is_logged k m.runtime.streams → IsReady is_logged k m'.runtime.streams
+ready_asked c ready = ready_behind (c.changes no_tables) ready
 
 module _ {is_logged : Type 0} {plan : Plan} where
   -- a node whose value is tested at once
@@ -100,25 +104,33 @@ module _ {is_logged : Type 0} {plan : Plan} where
     pub matched_ends : {h : Halt} → Computes (v.Matches a ere) m (Err h) m' → Ends is_logged plan (AtNode (n.Match a ere here other)) m k (Err h) m' k
     matched_ends c = tested_ends {node = n.Match a ere here other} (λ p low. low) (λ tables ds b vs. refl) c
 
-  -- a test of a range, by its number
+  -- what a test asks
 
-  pub inside_on : {number here other i : ℕ} {m : Machine} {k : WorldState} {t : Bool} → i ≡ (if t then here else other) → Changes (is_inside number) m.runtime m.runtime (Ok t) → Moves is_logged plan (AtNode (n.TestInside number here other)) m k (move.On i) m k
-  inside_on {number = number} {here = here} {other = other} {m = m} {k = k} {t = t} at changes =
-      let left = m.operands.values in
-      subst (λ (j : ℕ). Moves is_logged plan (AtNode (n.TestInside number here other)) m k (move.On j) m k) (sym at) (record {
-        moves = record {
-          less = λ p low. chosen_below t low;
-          calls = refl;
-          leads = leads_on (λ tables functions. is_inside number) (λ tables ds b x. choose x (cont tables ds plan b here left) (cont tables ds plan b other left)) (λ tables ds b. refl)
-              (λ tables functions. change_simulates changes) (λ tables ds b. chosen_cont here other tables ds plan b t left) refl;
-        };
-      })
+  module _ {x : Tested} {here other : ℕ} {m m' : Machine} {k : WorldState} where
+    pub asked_on : {t : Bool} → Asks x m (Ok t) m' → Moves is_logged plan (AtNode (n.Test x here other)) m k (move.On (if t then here else other)) m' k
+    asked_on {t = t} c =
+        let left = drop (asked_operands x) m.operands.values in
+        record {
+          moves = record {
+            less = λ p low. chosen_below t low;
+            calls = c.calls;
+            leads = leads_on (λ tables functions. asked tables x m.operands.values) (λ tables ds b holds. choose holds (cont tables ds plan b here left) (cont tables ds plan b other left)) (λ tables ds b. refl)
+                (λ tables functions. change_simulates (c.changes tables))
+                (λ tables ds b. chosen_cont here other tables ds plan b t left ∙ ap (λ (o : OperandsView). cont tables ds plan b (if t then here else other) o.values) (sym c.operands))
+                (ap (λ es. seen_of m'.operands es) c.calls ∙ ap (λ (o : OperandsView). seen_of o m.runtime.frames.callers) c.operands);
+          };
+        }
+
+    pub asked_ends : {h : Halt} → Asks x m (Err h) m' → Ends is_logged plan (AtNode (n.Test x here other)) m k (Err h) m' k
+    asked_ends c =
+        let left = drop (asked_operands x) m.operands.values in
+        ends_on (λ tables functions. asked tables x m.operands.values) (λ tables ds b holds. choose holds (cont tables ds plan b here left) (cont tables ds plan b other left)) (λ tables ds b. refl) (λ tables functions. change_simulates (c.changes tables))
 
   -- a node that takes no value off the stack, and puts none on it
 
-  module _ {node : Node} {i : ℕ} (run : Tables → Run Value) (below : (at : ℕ) → AreBelow at node → i < at)
+  module _ {A : Type 0} {node : Node} {i : ℕ} (run : Tables → Run A) (below : (at : ℕ) → AreBelow at node → i < at)
       (is : (tables : Tables) (ds : List Definition) (b : Bound) (vs : List Value) → begun tables ds plan (AtNode node) b vs ≡ (run tables >>= λ _. cont tables ds plan b i vs)) where
-    ran_on : {m m' : Machine} {k : WorldState} {w : Value} → m'.operands ≡ m.operands → m'.runtime.frames.callers ≡ m.runtime.frames.callers → ((tables : Tables) → Changes (run (tables_in m.runtime.names tables)) m.runtime m'.runtime (Ok w)) → Moves is_logged plan (AtNode node) m k (move.On i) m' k
+    ran_on : {m m' : Machine} {k : WorldState} {w : A} → m'.operands ≡ m.operands → m'.runtime.frames.callers ≡ m.runtime.frames.callers → ((tables : Tables) → Changes (run (tables_in m.runtime.names tables)) m.runtime m'.runtime (Ok w)) → Moves is_logged plan (AtNode node) m k (move.On i) m' k
     ran_on {m = m} {m' = m'} operands calls changes = record {
       moves = record {
         less = below;
@@ -132,6 +144,13 @@ module _ {is_logged : Type 0} {plan : Plan} where
 
     ran_ends : {m m' : Machine} {k : WorldState} {h : Halt} → ((tables : Tables) → Changes (run (tables_in m.runtime.names tables)) m.runtime m'.runtime (Err h)) → Ends is_logged plan (AtNode node) m k (Err h) m' k
     ran_ends {m = m} changes = ends_on (λ tables functions. run tables) (λ tables ds b _. cont tables ds plan b i m.operands.values) (λ tables ds b. is tables ds b m.operands.values) (λ tables functions. change_simulates (changes tables))
+
+  module _ {i : ℕ} {m m' : Machine} {k : WorldState} where
+    pub spent_on : m'.operands ≡ m.operands → Spends m.runtime m'.runtime (Ok tt) → Moves is_logged plan (AtNode (n.Spend i)) m k (move.On i) m' k
+    spent_on operands s = ran_on (λ tables. spend) (λ at low. low) (λ tables ds b vs. refl) operands s.changes.callers (λ tables. s.changes)
+
+    pub spent_ends : {h : Halt} → Spends m.runtime m'.runtime (Err h) → Ends is_logged plan (AtNode (n.Spend i)) m k (Err h) m' k
+    spent_ends s = ran_ends {node = n.Spend i} (λ tables. spend) (λ at low. low) (λ tables ds b vs. refl) (λ tables. s.changes)
 
   module _ {t : Target} {i : ℕ} {m m' : Machine} {k : WorldState} where
     pub update_on : {o : AssignmentOperator} {a : Operand} {w : Value} → Updates o t a m (Ok w) m' → Moves is_logged plan (AtNode (n.Update o t a i)) m k (move.On i) m' k
@@ -207,17 +226,17 @@ module _ {is_logged : Type 0} {plan : Plan} where
   -- operands that are printed
 
   module _ {list : Vec Operand} {i : ℕ} {m m' : Machine} {k k' : WorldState} where
-    pub print_on : PrintsOperands is_logged list.items m k (Ok tt) m' k' → Moves is_logged plan (AtNode (n.Print list i)) m k (move.On i) m' k'
+    pub print_on : SpendsAndPrints is_logged list.items m k (Ok tt) m' k' → Moves is_logged plan (AtNode (n.Print list i)) m k (move.On i) m' k'
     print_on c = record {
       moves = record {
         less = λ at low. low;
         calls = c.calls;
-        leads = leads_on (λ tables functions. print_operands tables.names list.items) (λ tables ds b _. cont tables ds plan b i m.operands.values) (λ tables ds b. refl)
+        leads = leads_on (λ tables functions. print_by_step tables.names list.items) (λ tables ds b _. cont tables ds plan b i m.operands.values) (λ tables ds b. refl)
             (λ tables functions. c.simulates)
             (λ tables ds b. ap (λ (s : OperandsView). cont tables ds plan b i s.values) (sym c.operands))
             (ap (λ es. seen_of m'.operands es) c.calls ∙ ap (λ (s : OperandsView). seen_of s m.runtime.frames.callers) c.operands);
       };
     }
 
-    pub print_ends : {h : Halt} → PrintsOperands is_logged list.items m k (Err h) m' k' → Ends is_logged plan (AtNode (n.Print list i)) m k (Err h) m' k'
-    print_ends c = ends_on (λ tables functions. print_operands tables.names list.items) (λ tables ds b _. cont tables ds plan b i m.operands.values) (λ tables ds b. refl) (λ tables functions. c.simulates)
+    pub print_ends : {h : Halt} → SpendsAndPrints is_logged list.items m k (Err h) m' k' → Ends is_logged plan (AtNode (n.Print list i)) m k (Err h) m' k'
+    print_ends c = ends_on (λ tables functions. print_by_step tables.names list.items) (λ tables ds b _. cont tables ds plan b i m.operands.values) (λ tables ds b. refl) (λ tables functions. c.simulates)

@@ -87,15 +87,15 @@ in_place tables all ere p vs vs' operand replacement old rest e1 e2 e3 e4 e5 h =
 
 -- effects
 
-pub performed : {is_logged : Type 0} {x : EffectNode} {m m' : Machine} {k k' : WorldState} (r : Result (Unit {0}) Halt) → m'.operands ≡ record m.operands { values = drop (dropped x) m.operands.values } → m'.runtime.frames.callers ≡ m.runtime.frames.callers → ((functions : Functions) → Simulates is_logged m.runtime k m'.runtime k' r (effect_of functions x m.operands.values)) → Performs is_logged x m k r m' k'
+pub performed : {is_logged : Type 0} {x : EffectNode} {m m' : Machine} {k k' : WorldState} (r : Result (Unit {0}) Halt) → m'.operands ≡ record m.operands { values = drop (dropped x) m.operands.values } → m'.runtime.frames.callers ≡ m.runtime.frames.callers → ((tables : Tables) (functions : Functions) → Simulates is_logged m.runtime k m'.runtime k' r (effect_of (tables_in m.runtime.names tables) functions x m.operands.values)) → Performs is_logged x m k r m' k'
 performed (Ok u) o c h = record { operands = o; calls = c; simulates = h }
 performed (Err e) o c h = record { operands = tt; calls = tt; simulates = h }
 
-pub effect_ended : {is_logged : Type 0} {x : EffectNode} {m m' : Machine} {k k' : WorldState} (e : Halt) → ((functions : Functions) → Simulates is_logged m.runtime k m'.runtime k' (Err e) (effect_of functions x m.operands.values)) → Performs is_logged x m k (Err e) m' k'
+pub effect_ended : {is_logged : Type 0} {x : EffectNode} {m m' : Machine} {k k' : WorldState} (e : Halt) → ((tables : Tables) (functions : Functions) → Simulates is_logged m.runtime k m'.runtime k' (Err e) (effect_of (tables_in m.runtime.names tables) functions x m.operands.values)) → Performs is_logged x m k (Err e) m' k'
 effect_ended e h = record { operands = tt; calls = tt; simulates = h }
 
 pub acted : {is_logged : Type 0} {x : EffectNode} {m m' : Machine} {k : WorldState} {r : Result (Unit {0}) Halt} → Acts x m r m' → Performs is_logged x m k r m' k
-acted h = record { operands = h.operands; calls = h.calls; simulates = λ functions. change_simulates (h.changes functions) }
+acted h = record { operands = h.operands; calls = h.calls; simulates = λ tables functions. change_simulates (h.changes tables functions) }
 
 -- what is ready stays so
 
@@ -106,7 +106,7 @@ no_tables : Tables
 no_tables = record { names = []; eres = []; arrays = []; functions = [] }
 
 pub acted_ready : {is_logged : Type 0} {x : EffectNode} {m m' : Machine} {k : WorldState} {r : Result (Unit {0}) Halt} → Acts x m r m' → IsReady is_logged k m.runtime.streams → IsReady is_logged k m'.runtime.streams
-acted_ready h ready = ready_same (h.changes no_functions).streams ready
+acted_ready h ready = ready_same (h.changes no_tables no_functions).streams ready
 
 pub computed_ready : {is_logged : Type 0} {x : ValueNode} {m m' : Machine} {k : WorldState} {r : Result Value Halt} → Computes x m r m' → IsReady is_logged k m.runtime.streams → IsReady is_logged k m'.runtime.streams
 computed_ready h ready = ready_same (h.changes no_tables no_functions).streams ready

@@ -1,7 +1,7 @@
 -- Elements at keys that are read where they stand.
 use Rattle.std.specs.Prelude.{OnOk, IfSome, is_some}
 use Rattle.std.specs.List.{concat}
-use Rattle.std.proofs.Common.{◌≡◌, ℕ, ℤ, Bool, true, List, [], ◌∷◌, ◌++◌, map, length, drop, None, Some, Option, Result, Ok, Err, refl, sym, ap, ◌∙◌, subst}
+use Rattle.std.proofs.Common.{◌≡◌, ℕ, ℤ, Bool, true, List, [], ◌∷◌, map, length, drop, None, Some, Option, Result, Ok, Err, refl, sym, ap, ◌∙◌, subst}
 use Rattle.std.specs.Global.{Vec}
 use Rattle.awk_value.specs.declared.value.Value.{Value}
 use Rattle.awk_value.specs.declared.value.Value.TheVariants as value
@@ -10,7 +10,7 @@ use Rattle.awk_lex.specs.declared.token.AssignmentOperator.{AssignmentOperator}
 use Rattle.awk_lex.specs.declared.token.AssignmentOperator.TheVariants as assignment
 use Rattle.awk_lex.specs.declared.token.IncrementOperator.{IncrementOperator}
 use Rattle.awk_semantics.specs.declared.halt.Halt.{Halt}
-use Rattle.awk_semantics.specs.State.{State, Run, ◌>>=◌, lift, ret}
+use Rattle.awk_semantics.specs.State.{Run, ◌>>=◌, lift, ret}
 use Rattle.awk_semantics.specs.Operators.{operator_of, truth_value}
 use Rattle.awk_storage.specs.declared.position.Array.{Array}
 use Rattle.awk_storage.specs.declared.position.Place.TheVariants as place
@@ -22,7 +22,7 @@ use Rattle.awk_resolve.specs.declared.node.Operand.{Operand}
 use Rattle.awk_resolve.specs.declared.node.Target.{Target}
 use Rattle.awk_resolve.specs.declared.node.Target.TheVariants as target
 use Rattle.awk_resolve.specs.declared.node.ValueNode.TheVariants as v
-use Rattle.awk_resolve.specs.Nodes.{Tables, first, taken, operand_value, operand_values, key_value, assign_target, raise_target}
+use Rattle.awk_resolve.specs.Nodes.{taken, operand_value, operand_values}
 use Rattle.awk_runtime.specs.declared.runtime.Runtime.{Runtime}
 use Rattle.awk_runtime.specs.Naming.{Naming}
 use Rattle.awk_runtime.specs.Simulation.{Changes}
@@ -33,7 +33,7 @@ use Rattle.awk_evaluator.specs.Operands.{OperandsView}
 use Rattle.awk_evaluator.specs.Moves.{Computes, Done, Keeps, without_value}
 use Rattle.awk_evaluator.specs.Reading.{Runs, Leaves, ReadsOperand, ReadsJoined, ReadsKey, AssignsElement, AssignsTarget, PutsAt, Raises, PutsValues, PutsOperands}
 use Rattle.awk_evaluator.specs.Appending.{Joins}
-use Rattle.awk_evaluator.specs.Quick.{IsAtHand, IsKeyAtHand, IsAsGood, Puts, Pushed, AssignsAlike}
+use Rattle.awk_evaluator.specs.Quick.{IsAtHand, IsKeyAtHand, IsAsGood, Puts, Pushed}
 use Rattle.awk_evaluator.specs.Elements.{IsJoinedAtHand, Acts, GivesElement, RaisesElement, RaisesAtKey}
 use Rattle.awk_evaluator.proofs.OperandPrints.{own_taken, own_dropped}
 use Rattle.awk_evaluator.proofs.QuickValues.{pushed_puts}
@@ -224,19 +224,10 @@ module _ (a : Array) (k : Key) {m m1 : Machine} where
   pub element_unread : {h : Halt} → ReadsKey k m (Err h) m1 → Computes (v.ReadElement a (Some k)) m (Err h) m1
   element_unread q = record { operands = tt; calls = tt; changes = λ tables functions. ends_changes _ q.changes }
 
-  pub not_contained : {h : Halt} → ReadsKey k m (Err h) m1 → Computes (v.Contains a (Some k)) m (Err h) m1
-  not_contained q = record { operands = tt; calls = tt; changes = λ tables functions. ends_changes _ q.changes }
-
   module _ {w : Value} (q : ReadsKey k m (Ok w) m1) {m' : Machine} where
     pub element_read : (r : Result Value Halt) → Changes (read_element_of a (str_of w)) m1.runtime m'.runtime r → m'.operands ≡ m1.operands → m'.runtime.frames.callers ≡ m1.runtime.frames.callers → Computes (v.ReadElement a (Some k)) m r m'
     element_read (Ok u) h operands calls = record { operands = operands ∙ q.operands; calls = calls ∙ q.calls; changes = λ tables functions. then_changes _ q.changes h }
     element_read (Err e) h operands calls = record { operands = tt; calls = tt; changes = λ tables functions. then_changes _ q.changes h }
-
-    pub contained : {found : Bool} → Changes (contains_at a (str_of w)) m1.runtime m'.runtime (Ok found) → m'.operands ≡ m1.operands → m'.runtime.frames.callers ≡ m1.runtime.frames.callers → Computes (v.Contains a (Some k)) m (Ok (truth_value found)) m'
-    contained h operands calls = record { operands = operands ∙ q.operands; calls = calls ∙ q.calls; changes = λ tables functions. then_changes _ q.changes (made_of truth_value _ h) }
-
-    pub not_found : {h : Halt} → Changes (contains_at a (str_of w)) m1.runtime m'.runtime (Err h) → Computes (v.Contains a (Some k)) m (Err h) m'
-    not_found h = record { operands = tt; calls = tt; changes = λ tables functions. then_changes _ q.changes (ends_changes _ h) }
 
 -- a target that is raised for its value
 

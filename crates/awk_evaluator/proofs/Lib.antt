@@ -22,4 +22,5 @@ pub mod CallBegins
 pub mod Computing
 pub mod SoundPlans
 mod Appending
+mod Asking
 mod Keys

@@ -4,7 +4,6 @@ use Rattle.std.proofs.lemmas.Bool.{eqb-true}
 use Rattle.std.proofs.Common.{◌≡◌, ◌≢◌, ℕ, zero, suc, ◌-◌, ◌≤◌, Bool, true, false, List, [], ◌∷◌, ◌++◌, length, drop, slice_get, Some, None, Result, Ok, Err, refl, sym, ap, ◌∙◌, subst, arith, get_or, inl, pos}
 use Rattle.awk_value.specs.declared.value.Value.{Value}
 use Rattle.awk_value.specs.declared.value.Value.TheVariants as value
-use Rattle.awk_value.specs.Values.{truth_of}
 use Rattle.awk_streams.specs.WorldState.{WorldState}
 use Rattle.awk_kinds.specs.Kinds.{Definition}
 use Rattle.awk_semantics.specs.declared.halt.Halt.{Halt}
@@ -269,34 +268,15 @@ module _ {is_logged : Type 0} {plan : Plan} where
       moves = record {
         less = λ at low. low;
         calls = e.calls;
-        leads = leads_on (λ tables functions. effect_of functions x m.operands.values) (λ tables ds b u. cont tables ds plan b i (drop (dropped x) m.operands.values)) (λ tables ds b. refl)
-            (λ tables functions. e.simulates functions)
+        leads = leads_on (λ tables functions. effect_of tables functions x m.operands.values) (λ tables ds b u. cont tables ds plan b i (drop (dropped x) m.operands.values)) (λ tables ds b. refl)
+            e.simulates
             (λ tables ds b. ap (λ vs. cont tables ds plan b i vs) (ap (λ (o : OperandsView). o.values) (sym e.operands)))
             (ap (λ es. seen_of m'.operands es) e.calls ∙ ap (λ (o : OperandsView). seen_of o m.runtime.frames.callers) e.operands);
       };
     }
 
     pub effect_ends : {m m' : Machine} {k k' : WorldState} {h : Halt} → Performs is_logged x m k (Err h) m' k' → Ends is_logged plan (AtNode (n.Effect x i)) m k (Err h) m' k'
-    effect_ends {m = m} e = ends_on (λ tables functions. effect_of functions x m.operands.values) (λ tables ds b u. cont tables ds plan b i (drop (dropped x) m.operands.values)) (λ tables ds b. refl) (λ tables functions. e.simulates functions)
-
-  -- tests
-
-  module _ {here other : ℕ} where
-    tested : {m m' : Machine} {k : WorldState} {t : Bool} (i : ℕ) → truth_of (first m.operands.values) ≡ t → m'.operands ≡ record m.operands { values = drop 1 m.operands.values } → m'.runtime.frames.callers ≡ m.runtime.frames.callers → m'.runtime ≡ m.runtime
-        → ((tables : Tables) (ds : List Definition) (b : Bound) → choose t (cont tables ds plan b here (drop 1 m.operands.values)) (cont tables ds plan b other (drop 1 m.operands.values)) ≡ cont tables ds plan b i (drop 1 m.operands.values))
-        → Leads is_logged plan (AtNode (n.Test here other)) m k i m' k
-    tested {m = m} {m' = m'} i e operands calls same chosen = leads_at_once
-        (λ tables ds b. ap (λ x. choose x (cont tables ds plan b here (drop 1 m.operands.values)) (cont tables ds plan b other (drop 1 m.operands.values))) e ∙ chosen tables ds b ∙ ap (λ (o : OperandsView). cont tables ds plan b i o.values) (sym operands))
-        same (ap (λ es. seen_of m'.operands es) calls ∙ ap (λ (o : OperandsView). seen_of o m.runtime.frames.callers) operands)
-
-    pub test_on : {m m' : Machine} {k : WorldState} {t : Bool} {i : ℕ} → i ≡ (if t then here else other) → truth_of (first m.operands.values) ≡ t → m'.operands ≡ record m.operands { values = drop 1 m.operands.values } → m'.runtime.frames.callers ≡ m.runtime.frames.callers → m'.runtime ≡ m.runtime → Moves is_logged plan (AtNode (n.Test here other)) m k (move.On i) m' k
-    test_on {m = m} {m' = m'} {k = k} {t = t} is e operands calls same = subst (λ (j : ℕ). Moves is_logged plan (AtNode (n.Test here other)) m k (move.On j) m' k) (sym is) (record {
-      moves = record {
-        less = λ at low. chosen_below t low;
-        calls = calls;
-        leads = tested (if t then here else other) e operands calls same (λ tables ds b. chosen_cont here other tables ds plan b t (drop 1 m.operands.values));
-      };
-    })
+    effect_ends {m = m} e = ends_on (λ tables functions. effect_of tables functions x m.operands.values) (λ tables ds b u. cont tables ds plan b i (drop (dropped x) m.operands.values)) (λ tables ds b. refl) e.simulates
 
   -- turns
 

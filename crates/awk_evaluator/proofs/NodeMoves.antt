@@ -17,6 +17,7 @@ use Rattle.awk_resolve.specs.declared.node.Operand.{Operand}
 use Rattle.awk_resolve.specs.declared.node.Node.{Node}
 use Rattle.awk_resolve.specs.declared.node.Node.TheVariants as n
 use Rattle.awk_resolve.specs.declared.node.Target.{Target}
+use Rattle.awk_resolve.specs.declared.node.Tested.{Tested}
 use Rattle.awk_resolve.specs.declared.node.ValueNode.{ValueNode}
 use Rattle.awk_resolve.specs.declared.node.ValueNode.TheVariants as v
 use Rattle.awk_resolve.specs.declared.node.EffectNode.{EffectNode}
@@ -31,11 +32,11 @@ use Rattle.awk_evaluator.specs.declared.machine.Move.{Move}
 use Rattle.awk_evaluator.specs.declared.machine.Move.TheVariants as move
 use Rattle.awk_evaluator.specs.Rest.{IsSound, PlanStands, tables_in, Start, AtPlace, AtNode}
 use Rattle.awk_evaluator.specs.Moves.{RestOf, Leads, Ends, Upward, Finishes, Moves, Turns, Steps, Computes, Evaluates, Performs, GivesBack, PutsFoundBy, PutsFound, Done, came, told, onward, upward, toward}
-use Rattle.awk_evaluator.specs.Reading.{Leaves, Runs, Compares, Updates, Increments, Appends, PrintsOperands}
+use Rattle.awk_evaluator.specs.Reading.{Leaves, Runs, Compares, Asks, Updates, Increments, Appends, SpendsAndPrints}
 use Rattle.awk_evaluator.specs.Appending.{SpendsAndAppends}
 use Rattle.awk_evaluator.specs.Walks.{PutsKeys, TakesKey}
 use Rattle.awk_evaluator.proofs.Moving.{by_place, past_end, halts, ready_computed, led_on, led_ends, value_on, value_memory, effect_on, effect_ends, again_on, again_stuck, key_on, key_stuck, walk_on, walk_ends, key_taken, key_ends}
-use Rattle.awk_evaluator.proofs.Changing.{with_on, with_ends, compared_on, compared_ends, matched_on, matched_ends, assign_on, assign_ends, raise_on, raise_ends, append_on, append_ends, append_operands_on, append_operands_ends, print_on, print_ends, update_on, update_ends, increment_on, increment_ends}
+use Rattle.awk_evaluator.proofs.Changing.{with_on, with_ends, compared_on, compared_ends, matched_on, matched_ends, asked_on, asked_ends, spent_on, spent_ends, assign_on, assign_ends, raise_on, raise_ends, append_on, append_ends, append_operands_on, append_operands_ends, print_on, print_ends, update_on, update_ends, increment_on, increment_ends}
 
 module _ {is_logged : Type 0} {plan : Plan} {m m' : Machine} {k k' : WorldState} {i : ℕ} where
   -- a part that gives a value of no use
@@ -47,7 +48,7 @@ module _ {is_logged : Type 0} {plan : Plan} {m m' : Machine} {k k' : WorldState}
   effect_moves true e = effect_on e
   effect_moves false e = record { moves = effect_ends e }
 
-  pub print_moves : {list : Vec Operand} (done : Bool) → PrintsOperands is_logged list.items m k (came done m') m' k' → Moves is_logged plan (AtNode (n.Print list i)) m k (onward done i) m' k'
+  pub print_moves : {list : Vec Operand} (done : Bool) → SpendsAndPrints is_logged list.items m k (came done m') m' k' → Moves is_logged plan (AtNode (n.Print list i)) m k (onward done i) m' k'
   print_moves true e = print_on e
   print_moves false e = record { moves = print_ends e }
 
@@ -89,6 +90,10 @@ module _ {is_logged : Type 0} {plan : Plan} {m m' : Machine} {k : WorldState} {i
   key_moves true p = key_taken p
   key_moves false p = record { moves = key_ends p }
 
+  pub spend_moves : (spent : Bool) → m'.operands ≡ m.operands → Spends m.runtime m'.runtime (came spent m') → Moves is_logged plan (AtNode (n.Spend i)) m k (onward spent i) m' k
+  spend_moves true operands s = spent_on operands s
+  spend_moves false operands s = record { moves = spent_ends s }
+
   -- turns
 
   pub again_moves : {j : ℕ} (spent : Bool) → i ≡ get_or plan.heads.items j 0 → m'.operands ≡ m.operands → m'.runtime.frames.callers ≡ m.runtime.frames.callers → Spends m.runtime m'.runtime (came spent m') → Moves is_logged plan (AtNode (n.Again j)) m k (upward spent i) m' k
@@ -113,6 +118,10 @@ module _ {is_logged : Type 0} {plan : Plan} {m m' : Machine} {k : WorldState} {h
 pub match_moves : {is_logged : Type 0} {plan : Plan} {m m' : Machine} {k : WorldState} {a : Operand} {ere here other : ℕ} (holds : Option Bool) → Compares (v.Matches a ere) m (told holds m') m' → Moves is_logged plan (AtNode (n.Match a ere here other)) m k (toward holds here other) m' k
 match_moves (Some t) c = matched_on refl c.compares.1 c.compares.2
 match_moves None c = record { moves = matched_ends c.compares }
+
+pub ask_moves : {is_logged : Type 0} {plan : Plan} {m m' : Machine} {k : WorldState} {x : Tested} {here other : ℕ} (holds : Option Bool) → Asks x m (told holds m') m' → Moves is_logged plan (AtNode (n.Test x here other)) m k (toward holds here other) m' k
+ask_moves (Some t) c = asked_on c
+ask_moves None c = record { moves = asked_ends c }
 
 -- what is ready stays so
 

@@ -24,16 +24,18 @@ use Rattle.awk_resolve.specs.declared.node.Target.TheVariants as target
 use Rattle.awk_resolve.specs.declared.node.ValueNode.{ValueNode}
 use Rattle.awk_resolve.specs.declared.node.ValueNode.TheVariants as v
 use Rattle.awk_resolve.specs.declared.node.EffectNode.{EffectNode}
-use Rattle.awk_resolve.specs.Nodes.{Tables, popped, first, second, taken, value_of, effect_of, operated_with, assign_variable, assign_target, raise_target, append_to, print_operands}
+use Rattle.awk_resolve.specs.declared.node.EffectNode.TheVariants as e
+use Rattle.awk_resolve.specs.declared.node.Exchange.{Exchange}
+use Rattle.awk_resolve.specs.Nodes.{Tables, popped, first, second, taken, value_of, effect_of, operated_with, assign_variable, assign_target, raise_target, append_to, print_operands, print_by_step}
 use Rattle.awk_runtime.specs.declared.runtime.Runtime.{Runtime}
 use Rattle.awk_runtime.specs.Naming.{Naming}
 use Rattle.awk_runtime.specs.Simulation.{Simulates, Changes, Spends}
-use Rattle.awk_runtime.proofs.Composition.{then_changes, ends_changes}
+use Rattle.awk_runtime.proofs.Composition.{then_changes, ends_changes, lift_changes, change_simulates, then_simulates, ends_simulates}
 use Rattle.awk_runtime.specs.support.Updates.{GivesNumber, Gives}
 use Rattle.awk_evaluator.specs.declared.machine.Machine.{Machine}
 use Rattle.awk_evaluator.specs.Rest.{tables_in}
-use Rattle.awk_evaluator.specs.Moves.{Computes, Performs, Keeps, DoneBy, Done, without_value, truth_in}
-use Rattle.awk_evaluator.specs.Reading.{Runs, Leaves, AssignsOperand, AssignsTarget, Raises, ComparesBy, Compares, Updates, Increments, Appends, PrintsOperands}
+use Rattle.awk_evaluator.specs.Moves.{Computes, Performs, Acts, Keeps, DoneBy, Done, without_value, truth_in}
+use Rattle.awk_evaluator.specs.Reading.{Runs, Leaves, AssignsOperand, AssignsTarget, Raises, ComparesBy, Compares, Updates, Increments, Appends, PrintsOperands, SpendsAndPrints}
 use Rattle.awk_evaluator.specs.Walks.{PutsKeysBy, PutsKeys, TakesKey}
 use Rattle.awk_evaluator.specs.Quick.{IsAtHand, Popped, Relates, RelatesWith, AssignsAlike}
 use Rattle.awk_evaluator.proofs.Changing.{variable_alike}
@@ -81,8 +83,8 @@ module _ {m m1 m' : Machine} (kept : Keeps m1 m') where
       by (Err h) u = record { operands = tt; calls = tt; changes = λ tables functions. subst (λ (y : Runtime). Changes (value_of (tables_in m.runtime.names tables) functions x m.operands.values) m.runtime y (Err h)) (sym kept.runtime) (u.changes tables functions) }
 
   performs_by : {is_logged : Type 0} {x : EffectNode} {k k' : WorldState} (r : Result (Unit {0}) Halt) → Performs is_logged x m k r m1 k' → Performs is_logged x m k (without_value r) m' k'
-  performs_by {is_logged = is_logged} {x = x} {k = k} {k' = k'} (Ok u) p = record { operands = kept.operands ∙ p.operands; calls = kept.calls ∙ p.calls; simulates = λ functions. subst (λ (y : Runtime). Simulates is_logged m.runtime k y k' (Ok tt) (effect_of functions x m.operands.values)) (sym kept.runtime) (p.simulates functions) }
-  performs_by {is_logged = is_logged} {x = x} {k = k} {k' = k'} (Err h) p = record { operands = tt; calls = tt; simulates = λ functions. subst (λ (y : Runtime). Simulates is_logged m.runtime k y k' (Err h) (effect_of functions x m.operands.values)) (sym kept.runtime) (p.simulates functions) }
+  performs_by {is_logged = is_logged} {x = x} {k = k} {k' = k'} (Ok u) p = record { operands = kept.operands ∙ p.operands; calls = kept.calls ∙ p.calls; simulates = λ tables functions. subst (λ (y : Runtime). Simulates is_logged m.runtime k y k' (Ok tt) (effect_of (tables_in m.runtime.names tables) functions x m.operands.values)) (sym kept.runtime) (p.simulates tables functions) }
+  performs_by {is_logged = is_logged} {x = x} {k = k} {k' = k'} (Err h) p = record { operands = tt; calls = tt; simulates = λ tables functions. subst (λ (y : Runtime). Simulates is_logged m.runtime k y k' (Err h) (effect_of (tables_in m.runtime.names tables) functions x m.operands.values)) (sym kept.runtime) (p.simulates tables functions) }
 
   pub performs_kept : {is_logged : Type 0} {x : EffectNode} {k k' : WorldState} {r s : Result (Unit {0}) Halt} → s ≡ without_value r → Performs is_logged x m k r m1 k' → Performs is_logged x m k s m' k'
   performs_kept {is_logged = is_logged} {x = x} {k = k} {k' = k'} {r = r} is p = subst (λ (q : Result (Unit {0}) Halt). Performs is_logged x m k q m' k') (sym is) (performs_by r p)
@@ -258,6 +260,28 @@ module _ {m m1 : Machine} (s : Spends m.runtime m1.runtime (Ok tt)) (operands : 
   pub increments_behind : (o : IncrementOperator) (t : Target) {m' : Machine} (r : Result (Unit {0}) Halt) → Done (λ q. Raises o t m1 q m') r → Done (λ q. Increments o t m q m') r
   increments_behind o t r d = spent_done (λ names. raise_target names.scalars o t) r d
 
+  pub prints_behind : {is_logged : Type 0} (list : List Operand) {m' : Machine} {k k' : WorldState} (r : Result (Unit {0}) Halt) → PrintsOperands is_logged list m1 k r m' k' → SpendsAndPrints is_logged list m k r m' k'
+  prints_behind {is_logged = is_logged} list {m' = m'} {k = k} {k' = k'} r p = by r p.operands p.calls (then_simulates _ (change_simulates s.changes) (subst (λ (names : Naming). Simulates is_logged m1.runtime k m'.runtime k' r (print_operands names.scalars list)) s.changes.names p.simulates))
+    where
+      by : (q : Result (Unit {0}) Halt) → OnOk q (m'.operands ≡ m1.operands) → OnOk q (m'.runtime.frames.callers ≡ m1.runtime.frames.callers) → Simulates is_logged m.runtime k m'.runtime k' q (print_by_step m.runtime.names.scalars list) → SpendsAndPrints is_logged list m k q m' k'
+      by (Ok u) o c simulates = record { operands = o ∙ operands; calls = c ∙ calls; simulates = simulates }
+      by (Err h) o c simulates = record { operands = tt; calls = tt; simulates = simulates }
+
+  exchanges_by : (x : Exchange) {m' : Machine} (r : Result Value Halt) → Computes (v.SubstituteIn x) m1 r m' → Acts (e.Exchange x) m (without_value r) m'
+  exchanges_by x {m' = m'} (Ok w) u = record {
+    operands = u.operands ∙ operands;
+    calls = u.calls ∙ calls;
+    changes = λ tables functions. then_changes _ s.changes (then_changes _ (subst (λ (names : Naming). Changes (value_of (tables_in names tables) functions (v.SubstituteIn x) m1.operands.values) m1.runtime m'.runtime (Ok w)) s.changes.names (u.changes tables functions)) (lift_changes (Ok tt) m'.runtime refl));
+  }
+  exchanges_by x {m' = m'} (Err h) u = record {
+    operands = tt;
+    calls = tt;
+    changes = λ tables functions. then_changes _ s.changes (ends_changes _ (subst (λ (names : Naming). Changes (value_of (tables_in names tables) functions (v.SubstituteIn x) m1.operands.values) m1.runtime m'.runtime (Err h)) s.changes.names (u.changes tables functions)));
+  }
+
+  pub exchanges_behind : (x : Exchange) {m' : Machine} (r : Result Value Halt) {q : Result (Unit {0}) Halt} → q ≡ without_value r → Computes (v.SubstituteIn x) m1 r m' → Acts (e.Exchange x) m q m'
+  exchanges_behind x {m' = m'} r is u = subst (λ (q : Result (Unit {0}) Halt). Acts (e.Exchange x) m q m') (sym is) (exchanges_by x r u)
+
 -- a variable is assigned an operand as a target
 pub variable_updated : (o : AssignmentOperator) (x : Variable) (a : Operand) {m m' : Machine} (r : Result (Unit {0}) Halt) → Done (λ q. AssignsOperand o x a m q m') r → Done (λ q. AssignsTarget o (target.Variable x) a m q m') r
 variable_updated o x a (Ok u) d = record { done = (d.done.0, record { operands = d.done.1.operands; calls = d.done.1.calls; changes = d.done.1.changes }) }
@@ -275,6 +299,12 @@ module _ {m m' : Machine} {h : Halt} (s : Spends m.runtime m'.runtime (Err h)) w
 
   pub not_incremented : (o : IncrementOperator) (t : Target) → Done (λ q. Increments o t m q m') (Err h)
   not_incremented o t = record { done = record { operands = tt; calls = tt; changes = ends_changes _ s.changes } }
+
+  pub not_printed : {is_logged : Type 0} (list : List Operand) {k : WorldState} → SpendsAndPrints is_logged list m k (Err h) m' k
+  not_printed list = record { operands = tt; calls = tt; simulates = ends_simulates _ (change_simulates s.changes) }
+
+  pub not_exchanged : (x : Exchange) → Acts (e.Exchange x) m (Err h) m'
+  not_exchanged x = record { operands = tt; calls = tt; changes = λ tables functions. ends_changes _ s.changes }
 
 -- what leaves nothing on the stack
 

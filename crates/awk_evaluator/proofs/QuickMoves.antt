@@ -1,25 +1,18 @@
 -- The quick moves.
-use Rattle.std.specs.Prelude.{if◌then◌else◌, IfSome}
-use Rattle.std.proofs.Common.{◌≡◌, ℕ, Bool, Option, Some, None, Ok, sym, subst}
+use Rattle.std.specs.Prelude.{IfSome}
+use Rattle.std.proofs.Common.{◌≡◌, Bool, Option, Some, None, Ok, sym, subst}
 use Rattle.awk_value.specs.declared.value.Value.{Value}
-use Rattle.awk_value.specs.Values.{truth_of}
 use Rattle.awk_lex.specs.declared.token.Operator.{Operator}
 use Rattle.awk_grammar.specs.declared.tree.BinaryOperator.TheVariants.{Infix}
-use Rattle.awk_streams.specs.WorldState.{WorldState}
 use Rattle.awk_semantics.specs.Operators.{applied, truth_value}
 use Rattle.awk_resolve.specs.declared.node.Operand.{Operand}
-use Rattle.awk_resolve.specs.declared.node.Node.TheVariants as n
 use Rattle.awk_resolve.specs.declared.node.ValueNode.{ValueNode}
-use Rattle.awk_resolve.specs.declared.plan.Plan.{Plan}
 use Rattle.awk_resolve.specs.Nodes.{first, operated_with}
 use Rattle.awk_runtime.specs.Simulation.{Changes}
 use Rattle.awk_runtime.proofs.Composition.{then_changes, lift_changes}
 use Rattle.awk_evaluator.specs.declared.machine.Machine.{Machine}
-use Rattle.awk_evaluator.specs.declared.machine.Move.TheVariants as move
-use Rattle.awk_evaluator.specs.Rest.{AtNode}
-use Rattle.awk_evaluator.specs.Moves.{Moves}
-use Rattle.awk_evaluator.specs.Quick.{IsAtHand, Puts, Popped, Relates, RelatesWith}
-use Rattle.awk_evaluator.proofs.Moving.{no_tables, no_functions, test_on}
+use Rattle.awk_evaluator.specs.Quick.{IsAtHand, Puts, Relates, RelatesWith}
+use Rattle.awk_evaluator.proofs.Moving.{no_tables, no_functions}
 
 -- how values at hand are related
 
@@ -37,9 +30,3 @@ related_with_hand o None top right e = tt
 
 pub puts_streams : {x : ValueNode} {m m' : Machine} → Puts x m m' → m'.runtime.streams ≡ m.runtime.streams
 puts_streams p = (p.changes no_tables no_functions).streams
-
--- the moves
-
-module _ {is_logged : Type 0} {plan : Plan} {m m' : Machine} {k : WorldState} {i : ℕ} where
-  pub truth_on : {here other : ℕ} {holds : Bool} → i ≡ (if holds then here else other) → truth_of (first m.operands.values) ≡ holds → Popped m m' → Moves is_logged plan (AtNode (n.Test here other)) m k (move.On i) m' k
-  truth_on at truth p = test_on at truth p.operands p.calls p.runtime

@@ -10,7 +10,7 @@ ghost use Rattle.awk_runtime.specs.Simulation.{SameState};
 ghost use Rattle.awk_resolve.specs.declared.node.ValueNode.TheVariants.{OperateWith, OperateOn, Matches};
 ghost use Rattle.awk_resolve.specs.Nodes.{first};
 ghost use Rattle.awk_evaluator.specs.Moves.{told};
-ghost use Rattle.awk_evaluator.specs.Reading.{Compares, Decides};
+ghost use Rattle.awk_evaluator.specs.Reading.{Asks, Compares, Decides};
 ghost use Rattle.awk_evaluator.specs.Applied.{HasNumber, StaysAlike};
 ghost use Rattle.awk_evaluator.specs.Quick.{IsAtHand, Popped, Relates, RelatesWith};
 
@@ -18,7 +18,7 @@ use crate::machine::{Machine, Move};
 use crate::moves::{chosen, toward};
 use awk_functions::{relate, relate_numbers};
 use awk_grammar::tree::BinaryOperator;
-use awk_resolve::node::Operand;
+use awk_resolve::node::{Operand, Tested};
 use awk_runtime::Runtime;
 use awk_storage::Variable;
 use awk_text::Span;
@@ -38,9 +38,22 @@ fn stretch_has_match(runtime: &mut Runtime, span: Span, ere: u32) -> Option<bool
 }
 
 impl Machine {
+    /// What a test asks, or that the run ends by what that came to.
+    #[inline(always)]
+    pub(crate) fn ask(&mut self, tested: &Tested) -> Option<bool>
+        ensures { Asks tested.now self.old (told result self.new) self.new }
+    {
+        match tested {
+            Tested::Top => Some(self.test()),
+            Tested::Raised(operator, target) => self.test_raised(*operator, target),
+            Tested::Element(array, key) => self.test_element(*array, key),
+            Tested::Inside(number) => Some(self.runtime.is_inside(*number as usize)),
+        }
+    }
+
     /// Whether the topmost operand is true, which is taken off.
     #[inline(always)]
-    pub(crate) fn test(&mut self) -> bool
+    fn test(&mut self) -> bool
         ensures truth { truth_of (first self.old.operands.values) ≡ result }
         ensures popped { Popped self.old self.new }
     {

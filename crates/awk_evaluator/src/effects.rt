@@ -4,7 +4,7 @@ ghost use Rattle.std.specs.Prelude.{◌≡◌, None as NoneOf, Some as SomeOf, O
 ghost use Rattle.awk_runtime.specs.Simulation.{IsReady};
 ghost use Rattle.awk_resolve.specs.declared.node.EffectNode.TheVariants.{Delete, Print, SetInside, SetStatus};
 ghost use Rattle.awk_evaluator.specs.Moves.{Acts, Performs, came};
-ghost use Rattle.awk_evaluator.specs.Reading.{PutsOperands, PrintsOperands};
+ghost use Rattle.awk_evaluator.specs.Reading.{PutsOperands, PrintsOperands, SpendsAndPrints};
 
 use crate::machine::Machine;
 use awk_grammar::tree::{PrintForm, Redirection};
@@ -23,7 +23,7 @@ impl Machine {
         ensures performs { Performs W.is_logged node.now self.old (W.state world.old) (came result self.new) self.new (W.state world.new) }
     {
         match node {
-            EffectNode::Spend => self.spend(),
+            EffectNode::Exchange(exchange) => self.make_exchange(exchange),
             EffectNode::Drop(1) => {
                 self.operands.pop();
                 true
@@ -96,36 +96,42 @@ impl Machine {
         ensures ready { IsReady W.is_logged (W.state world.new) self.new.runtime.streams }
         ensures performs { Performs W.is_logged node.now self.old (W.state world.old) (came result self.new) self.new (W.state world.new) }
     {
-        let performed = self.act(world, *node);
+        let performed = self.act(world, node);
         self.is_done(performed)
     }
 
     /// Does what a node does; an `Err` is what it came to.
-    fn act<W: World>(&mut self, world: &mut W, node: EffectNode) -> Result<(), Halt>
+    fn act<W: World>(&mut self, world: &mut W, node: &EffectNode) -> Result<(), Halt>
         requires ready { IsReady W.is_logged (W.state world.old) self.old.runtime.streams }
         ensures ready { IsReady W.is_logged (W.state world.new) self.new.runtime.streams }
-        ensures performs { Performs W.is_logged node self.old (W.state world.old) result self.new (W.state world.new) }
+        ensures performs { Performs W.is_logged node.now self.old (W.state world.old) result self.new (W.state world.new) }
     {
         match node {
-            EffectNode::Spend => self.runtime.spend(),
+            EffectNode::Exchange(exchange) => {
+                if self.make_exchange(exchange) {
+                    Ok(())
+                } else {
+                    Err(self.halt)
+                }
+            }
             EffectNode::Drop(count) => {
-                self.operands.drop(count as usize);
+                self.operands.drop(*count as usize);
                 Ok(())
             }
-            EffectNode::Delete(array) => self.delete(array),
+            EffectNode::Delete(array) => self.delete(*array),
             EffectNode::Clear(array) => {
-                self.runtime.clear_at(array);
+                self.runtime.clear_at(*array);
                 Ok(())
             }
             EffectNode::EndInput => {
                 self.runtime.close_main_input(world);
                 Ok(())
             }
-            EffectNode::Print(form, count, None) => self.print(world, form, count),
-            EffectNode::Print(form, count, Some(way)) => self.print_to(world, form, count, way),
+            EffectNode::Print(form, count, None) => self.print(world, *form, *count),
+            EffectNode::Print(form, count, Some(way)) => self.print_to(world, *form, *count, *way),
             EffectNode::SetStatus => self.set_status(),
             EffectNode::SetInside(number, is_inside) => {
-                self.runtime.set_inside(number as usize, is_inside)
+                self.runtime.set_inside(*number as usize, *is_inside)
             }
         }
     }
@@ -158,9 +164,22 @@ impl Machine {
         Ok(())
     }
 
-    /// Prints operands as a line to standard output.
+    /// Spends a step, and prints operands as a line to standard output.
     #[inline(never)]
-    pub(crate) fn print_operands<W: World>(&mut self, world: &mut W, operands: &[Operand]) -> bool
+    pub(crate) fn print_by_step<W: World>(&mut self, world: &mut W, operands: &[Operand]) -> bool
+        requires ready { IsReady W.is_logged (W.state world.old) self.old.runtime.streams }
+        ensures ready { IsReady W.is_logged (W.state world.new) self.new.runtime.streams }
+        ensures prints { SpendsAndPrints W.is_logged operands.now self.old (W.state world.old) (came result self.new) self.new (W.state world.new) }
+    {
+        if !self.spend() {
+            return false;
+        }
+        self.print_operands(world, operands)
+    }
+
+    /// Prints operands as a line to standard output.
+    #[inline(always)]
+    fn print_operands<W: World>(&mut self, world: &mut W, operands: &[Operand]) -> bool
         requires ready { IsReady W.is_logged (W.state world.old) self.old.runtime.streams }
         ensures ready { IsReady W.is_logged (W.state world.new) self.new.runtime.streams }
         ensures prints { PrintsOperands W.is_logged operands.now self.old (W.state world.old) (came result self.new) self.new (W.state world.new) }

@@ -3,13 +3,14 @@
 ghost use Rattle.std.specs.Prelude.{◌≡◌, Ok, Some as SomeOf, IfSome, IfNone, true, false};
 ghost use Rattle.awk_resolve.specs.declared.node.ValueNode.TheVariants.{ReadElement, Contains, PostIncrementAt};
 ghost use Rattle.awk_resolve.specs.declared.node.Target.TheVariants.{Element as ElementTarget};
-ghost use Rattle.awk_evaluator.specs.Moves.{Computes, Done, came};
-ghost use Rattle.awk_evaluator.specs.Reading.{AssignsElement, AssignsTarget, PutsAt, Raises};
+ghost use Rattle.awk_resolve.specs.declared.node.Tested.TheVariants.{Raised, Element as ElementTest};
+ghost use Rattle.awk_evaluator.specs.Moves.{Computes, Done, came, told};
+ghost use Rattle.awk_evaluator.specs.Reading.{Asks, AssignsElement, AssignsTarget, PutsAt, Raises};
 ghost use Rattle.awk_evaluator.specs.Quick.{Puts};
 ghost use Rattle.awk_evaluator.specs.Elements.{RaisesAtKey};
 
 use crate::machine::Machine;
-use crate::words::{Change, PutContains, PutElement, PutValue, Raise};
+use crate::words::{Change, HasElement, PutContains, PutElement, PutValue, Raise};
 use awk_functions::{operator_of, truth_value};
 use awk_lex::token::{AssignmentOperator, IncrementOperator};
 use awk_resolve::node::{Key, Operand, Target};
@@ -77,6 +78,50 @@ impl Machine {
         }
     }
 
+    /// Raises or lowers a target's number by 1: whether that which it had is true; else the run ends by what that came to.
+    #[inline(never)]
+    pub(crate) fn test_raised(
+        &mut self,
+        operator: IncrementOperator,
+        target: &Target,
+    ) -> Option<bool>
+        ensures { Asks (Raised operator target.now) self.old (told result self.new) self.new }
+    {
+        let Target::Element(array, key) = target else {
+            return self.test_any_raised(operator, target);
+        };
+        match self.raise_at_key(operator, *array, key) {
+            Some(n) => Some(n != 0),
+            None => self.test_any_raised(operator, target),
+        }
+    }
+
+    /// The same of any target.
+    #[inline(never)]
+    fn test_any_raised(&mut self, operator: IncrementOperator, target: &Target) -> Option<bool>
+        ensures { Asks (Raised operator target.now) self.old (told result self.new) self.new }
+    {
+        let number = self.post_increment_at(operator, target);
+        self.truth_of(number)
+    }
+
+    /// Whether there is an element at a key; else the run ends by what that came to.
+    #[inline(never)]
+    pub(crate) fn test_element(&mut self, array: Array, key: &Key) -> Option<bool>
+        ensures { Asks (ElementTest array key.now) self.old (told result self.new) self.new }
+    {
+        if let Some(Some(is_there)) = self.at_key(key, HasElement { array }) {
+            return Some(is_there);
+        }
+        match self.contains_at(array, key) {
+            Ok(is_there) => Some(is_there),
+            Err(halt) => {
+                self.halt = halt;
+                None
+            }
+        }
+    }
+
     /// The element at a key, or at the one that an operand is.
     #[inline(always)]
     pub(crate) fn element(&mut self, array: Array, key: &Option<Key>) -> Result<Value, Halt>
@@ -94,7 +139,10 @@ impl Machine {
         ensures { Computes (Contains array key.now) self.old result self.new }
     {
         match key {
-            Some(key) => self.contains_at(array, key),
+            Some(key) => {
+                let is_there = self.contains_at(array, key)?;
+                Ok(truth_value(is_there))
+            }
             None => self.contains_on_top(array),
         }
     }
@@ -109,12 +157,11 @@ impl Machine {
     }
 
     /// Whether there is an element at a key.
-    fn contains_at(&mut self, array: Array, key: &Key) -> Result<Value, Halt>
-        ensures { Computes (Contains array (SomeOf key.now)) self.old result self.new }
+    fn contains_at(&mut self, array: Array, key: &Key) -> Result<bool, Halt>
+        ensures { Asks (ElementTest array key.now) self.old result self.new }
     {
         let key = self.read_key(key)?;
-        let is_there = self.runtime.contains_at(array, &key)?;
-        Ok(truth_value(is_there))
+        self.runtime.contains_at(array, &key)
     }
 
     /// Assigns an operand to the element at a key.

@@ -85,7 +85,9 @@ impl Machine {
         ensures ends { EndsCalls self.old.runtime self.new.runtime }
     {
         self.operands.clear();
-        self.runtime.end_calls();
+        if !self.runtime.frames.are_over() {
+            self.runtime.end_calls();
+        }
     }
 
     /// Goes on from a place to the end.

@@ -110,7 +110,8 @@ impl Machine {
         match node {
             Node::Value(value, next) => self.put_value(world, plan, value, *next),
             Node::Effect(effect, next) => onward(self.perform(world, effect), *next),
-            Node::Test(here, other) => Move::On(chosen(self.test(), *here, *other)),
+            Node::Spend(next) => onward(self.spend(), *next),
+            Node::Test(tested, here, other) => toward(self.ask(tested), *here, *other),
             Node::CompareWith(operator, right, here, other) => {
                 self.compare_with(*operator, right, *here, *other)
             }
@@ -120,14 +121,9 @@ impl Machine {
             Node::Match(operand, ere, here, other) => {
                 toward(self.match_operand(operand, *ere), *here, *other)
             }
-            Node::TestInside(number, here, other) => {
-                let inside = self.runtime.is_inside(*number as usize);
-                Move::On(chosen(inside, *here, *other))
-            }
             Node::Assign(operator, place, next) => {
                 onward(self.assign_to(*operator, place), *next)
             }
-            Node::Raise(operator, place, next) => onward(self.raise(*operator, place), *next),
             Node::Update(operator, target, operand, next) => {
                 onward(self.update(*operator, target, operand), *next)
             }
@@ -137,6 +133,7 @@ impl Machine {
             Node::AppendOperands(target, parts, next) => {
                 onward(self.append_operands(target, parts), *next)
             }
+            Node::Print(operands, next) => onward(self.print_by_step(world, operands), *next),
             Node::Again(number) => {
                 let head = head_of(plan, *number);
                 upward(self.spend(), head)
@@ -147,7 +144,7 @@ impl Machine {
         }
     }
 
-    /// The move of a node that appends texts, prints operands, walks over keys or ends all calls.
+    /// The move of a node that appends texts, raises a place, walks over keys or ends all calls.
     #[inline(never)]
     fn make_rare_move<W: World>(&mut self, world: &mut W, plan: &Plan, node: &Node) -> Move
         requires rare { IsRare node.now }
@@ -159,7 +156,7 @@ impl Machine {
             Node::AppendTo(variable, count, next) => {
                 onward(self.append_texts(variable, *count), *next)
             }
-            Node::Print(operands, next) => onward(self.print_operands(world, operands), *next),
+            Node::Raise(operator, place, next) => onward(self.raise(*operator, place), *next),
             Node::Walk(array, next) => onward(self.begin_walk(*array), *next),
             Node::NextKey(number, exit) => {
                 if self.has_no_key() {
@@ -175,13 +172,13 @@ impl Machine {
                 Move::On(*next)
             }
             Node::Stop(ending) => self.halt_by(halt_of(*ending)),
-            Node::Value(_, _) | Node::Effect(_, _) | Node::Test(_, _) => unreachable!(),
+            Node::Value(_, _) | Node::Effect(_, _) => unreachable!(),
+            Node::Spend(_) | Node::Test(_, _, _) => unreachable!(),
             Node::CompareWith(_, _, _, _) | Node::Compare(_, _, _, _, _) => unreachable!(),
-            Node::Match(_, _, _, _) | Node::TestInside(_, _, _) => unreachable!(),
+            Node::Match(_, _, _, _) | Node::Update(_, _, _, _) => unreachable!(),
             Node::Assign(_, _, _) => unreachable!(),
-            Node::Raise(_, _, _) | Node::Update(_, _, _, _) => unreachable!(),
             Node::Increment(_, _, _) | Node::Again(_) => unreachable!(),
-            Node::AppendOperands(_, _, _) => unreachable!(),
+            Node::AppendOperands(_, _, _) | Node::Print(_, _) => unreachable!(),
             Node::Return | Node::End => unreachable!(),
         }
     }

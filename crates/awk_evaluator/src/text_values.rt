@@ -4,9 +4,10 @@ ghost use Rattle.std.specs.Prelude.{◌≡◌, ◌∷◌, drop, true, false, Non
 ghost use Rattle.awk_runtime.specs.Simulation.{Changes};
 ghost use Rattle.awk_resolve.specs.Nodes.{Tables, pattern_operands, substitute_by};
 ghost use Rattle.awk_resolve.specs.declared.node.ValueNode.TheVariants.{Match, Split, Substitute, SubstituteIn};
+ghost use Rattle.awk_resolve.specs.declared.node.EffectNode.TheVariants.{Exchange as ExchangeEffect};
 ghost use Rattle.awk_evaluator.specs.Quick.{Puts};
 ghost use Rattle.awk_evaluator.specs.Rest.{tables_in};
-ghost use Rattle.awk_evaluator.specs.Moves.{Computes};
+ghost use Rattle.awk_evaluator.specs.Moves.{Acts, Computes, came};
 
 use crate::machine::Machine;
 use crate::values::operand_count;
@@ -184,6 +185,18 @@ impl Machine {
                 self.runtime.substitute_in_record(all, pattern, replacement)
             }
         }
+    }
+
+    /// Spends a step, and exchanges matches of an ERE of the program in a variable or in the record.
+    #[inline(never)]
+    pub(crate) fn make_exchange(&mut self, exchange: &Exchange) -> bool
+        ensures { Acts (ExchangeEffect exchange.now) self.old (came result self.new) self.new }
+    {
+        if !self.spend() {
+            return false;
+        }
+        let count = self.substitute_in(exchange);
+        self.is_done(count)
     }
 
     /// Exchanges matches in a place or in the record. (POSIX awk, String Functions: sub, gsub)

@@ -3,7 +3,7 @@
 ghost use Rattle.std.specs.Prelude.{None as NoOperator};
 ghost use Rattle.awk_value.specs.declared.value.Value.TheVariants.{Number};
 ghost use Rattle.awk_semantics.specs.Operators.{operator_of};
-ghost use Rattle.awk_evaluator.specs.Elements.{DoesOrKeeps, PutsElement, PutsContains, GivesElement, RaisesElement, AppendsElement};
+ghost use Rattle.awk_evaluator.specs.Elements.{DoesOrKeeps, AnswersContains, PutsElement, PutsContains, GivesElement, RaisesElement, AppendsElement};
 
 use crate::at_key::AtKey;
 use crate::machine::Machine;
@@ -35,6 +35,23 @@ impl AtKey for PutElement {
             return machine.put(n);
         }
         machine.operands.push_copy(value)
+    }
+}
+
+/// Answers whether there is an element, where that is at hand.
+#[derive(Clone, Copy)]
+pub(crate) struct HasElement {
+    pub(crate) array: Array,
+}
+
+impl AtKey for HasElement {
+    type Answer = Option<bool>;
+
+    ghost does = { λ w key old answer new. AnswersContains w.array key old answer new };
+
+    #[inline(always)]
+    fn act(self, machine: &mut Machine, key: ElementKey) -> Option<bool> {
+        machine.runtime.has_element(self.array, key)
     }
 }
 

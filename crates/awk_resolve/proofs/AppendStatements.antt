@@ -20,7 +20,6 @@ use Rattle.awk_storage.specs.declared.position.Place.TheVariants as place
 use Rattle.awk_resolve.specs.declared.builder.Builder.{Builder}
 use Rattle.awk_resolve.specs.declared.builder.Exits.{Exits}
 use Rattle.awk_resolve.specs.declared.node.Node.TheVariants as n
-use Rattle.awk_resolve.specs.declared.node.EffectNode.TheVariants as effect
 use Rattle.awk_resolve.specs.definitions.Nodes.{append_to}
 use Rattle.awk_resolve.specs.support.Appends.{begins_with, is_append}
 use Rattle.awk_resolve.specs.support.Builds.{Grows, Pushes, IsIn, Program, EvaluateAll, Execute, Builds, FindsVariable, IsVariableOf, IsAt, Stands}
@@ -73,7 +72,7 @@ append_same {parameters = parameters} p {variable = variable} {x = x} g is ws m 
     sym (later_in _ _ s m (keeps_read_name x) l (λ old t k. assigned_by at None m (value.Text (str_of old ++ texts ws)) t k) ∙ first_same (read_name x) _ _ s (is.reads p g m s l))
 
 pub append_to_built : {kinds : ProgramKinds} {parameters : List FormalParameter} {a b c d f : Builder} {exits : Exits} {i j l count : ℕ} {variable : Variable} {x : List ℕ} (e : Expr) → Stands exits.next a → FindsVariable kinds parameters a b variable x
-    → is_append Plain (Name x) e ≡ true → parts_read e ≡ true → count ≡ count_of (parts_behind e) → Pushes b c (n.AppendTo variable count exits.next) l → Builds kinds parameters c d i (EvaluateAll (parts_behind e) l) → Pushes d f (n.Effect effect.Spend i) j
+    → is_append Plain (Name x) e ≡ true → parts_read e ≡ true → count ≡ count_of (parts_behind e) → Pushes b c (n.AppendTo variable count exits.next) l → Builds kinds parameters c d i (EvaluateAll (parts_behind e) l) → Pushes d f (n.Spend i) j
     → Builds kinds parameters a f j (Execute (Simple (Expression (Assign Plain (Name x) e))) exits)
 append_to_built {count = count} {variable = variable} {x = x} e h k append reads many q r t =
     let es = parts_behind e in

@@ -1,14 +1,13 @@
 -- Statements that change a target, built as one node, do what they mean.
 use Rattle.std.proofs.Common.{◌≡◌, ℕ, pos, List, Option, Some, None, refl, sym, ap, ◌∙◌, arith}
 use Rattle.awk_value.specs.declared.value.Value.{Value}
-use Rattle.awk_value.specs.declared.value.Value.TheVariants as value
 use Rattle.awk_lex.specs.declared.token.AssignmentOperator.{AssignmentOperator}
 use Rattle.awk_lex.specs.declared.token.IncrementOperator.{IncrementOperator}
 use Rattle.awk_lex.specs.declared.token.IncrementOperator.TheVariants as increment_operator
 use Rattle.awk_grammar.specs.Tree.{Expr, Number, Assign, PreIncrement, PostIncrement, Expression, Simple}
 use Rattle.awk_kinds.specs.definitions.Kinds.{FormalParameter}
 use Rattle.awk_kinds.specs.definitions.Signatures.{ProgramKinds}
-use Rattle.awk_semantics.specs.definitions.State.{State, Run, ◌>>=◌}
+use Rattle.awk_semantics.specs.definitions.State.{State, Run, ◌>>=◌, ret}
 use Rattle.awk_semantics.specs.definitions.Operators.{by_one, one, operator_of}
 use Rattle.awk_semantics.specs.definitions.Primitives.{spend}
 use Rattle.awk_semantics.specs.definitions.Places.{assign_by}
@@ -20,13 +19,15 @@ use Rattle.awk_resolve.specs.declared.builder.Exits.{Exits}
 use Rattle.awk_resolve.specs.declared.node.ValueNode.TheVariants as v
 use Rattle.awk_resolve.specs.declared.node.Node.{Node}
 use Rattle.awk_resolve.specs.declared.node.Node.TheVariants as n
-use Rattle.awk_resolve.specs.declared.node.EffectNode.TheVariants as e
+use Rattle.awk_resolve.specs.declared.node.EffectNode.TheVariants as effect
+use Rattle.awk_resolve.specs.declared.node.Exchange.{Exchange}
 use Rattle.awk_resolve.specs.declared.node.Operand.{Operand}
 use Rattle.awk_resolve.specs.declared.node.Operand.TheVariants as operand
 use Rattle.awk_resolve.specs.declared.node.Target.{Target}
-use Rattle.awk_resolve.specs.definitions.Nodes.{assign_target, raise_target}
+use Rattle.awk_resolve.specs.definitions.Nodes.{assign_target, raise_target, substitute_in}
 use Rattle.awk_resolve.specs.support.Builds.{Grows, Pushes, Extends, IsIn, Program, Evaluate, EvaluateOperand, Execute, leave_by, place_in, Places, Builds, Stands, ExitsStand, FindsAnOperand, FindsPlace}
 use Rattle.awk_resolve.specs.declared.scope.Scope.{Scope}
+use Rattle.awk_resolve.specs.support.Exchanges.{FindsAnExchange}
 use Rattle.awk_resolve.specs.support.Operands.{assigned_by_one}
 use Rattle.awk_resolve.specs.support.Scopes.{LowersChange}
 use Rattle.awk_resolve.specs.support.Targets.{FindsATarget}
@@ -72,7 +73,7 @@ update_built {x = x} {y = y} {t = t} {right = right} h o f k q =
     (λ p g m s l. target_assigned p (grows node.extends.grows g) o t x k.is right y (still_operand k.extends f.is) m s l)
 
 -- an expression whose value is of no use, behind a step
-pub discarded_built : {kinds : ProgramKinds} {parameters : List FormalParameter} {a c d : Builder} {exits : Exits} {i j : ℕ} (x : Expr) → Takes kinds parameters a c i (discarded exits.next) (λ p vs. eval p.functions x) (λ vs. vs) → Pushes c d (n.Effect e.Spend i) j
+pub discarded_built : {kinds : ProgramKinds} {parameters : List FormalParameter} {a c d : Builder} {exits : Exits} {i j : ℕ} (x : Expr) → Takes kinds parameters a c i (discarded exits.next) (λ p vs. eval p.functions x) (λ vs. vs) → Pushes c d (n.Spend i) j
     → Builds kinds parameters a d j (Execute (Simple (Expression x)) exits)
 discarded_built {exits = exits} x t r =
     stepped (Execute (Simple (Expression x)) exits) (λ functions at vs. eval functions x >>= λ _. at exits.next vs) t.extends r t.below t.is
@@ -80,11 +81,11 @@ discarded_built {exits = exits} x t r =
 
 -- places of any kind
 module _ {kinds : ProgramKinds} {parameters : List FormalParameter} {a b c : Builder} {exits : Exits} {l : ℕ} {x : Expr} {place : Place} (h : Stands exits.next a) (k : FindsPlace kinds parameters a b place x) where
-  pub assignment_built : {d f g : Builder} {y : Expr} {i j m : ℕ} (o : AssignmentOperator) → Pushes b c (n.Assign o place exits.next) l → Builds kinds parameters c d i (Evaluate y l) → Builds kinds parameters d f j (EvaluateOperand x i) → Pushes f g (n.Effect e.Spend j) m
+  pub assignment_built : {d f g : Builder} {y : Expr} {i j m : ℕ} (o : AssignmentOperator) → Pushes b c (n.Assign o place exits.next) l → Builds kinds parameters c d i (Evaluate y l) → Builds kinds parameters d f j (EvaluateOperand x i) → Pushes f g (n.Spend j) m
       → Builds kinds parameters a g m (Execute (Simple (Expression (Assign o x y))) exits)
   assignment_built {y = y} o q r r' t = discarded_built (Assign o x y) (assign_taken k o y (assign_node (still k.extends h) q) r r') t
 
-  pub post_raise_built : {d f : Builder} {i j : ℕ} (o : IncrementOperator) → Pushes b c (n.Raise o place exits.next) l → Builds kinds parameters c d i (EvaluateOperand x l) → Pushes d f (n.Effect e.Spend i) j
+  pub post_raise_built : {d f : Builder} {i j : ℕ} (o : IncrementOperator) → Pushes b c (n.Raise o place exits.next) l → Builds kinds parameters c d i (EvaluateOperand x l) → Pushes d f (n.Spend i) j
       → Builds kinds parameters a f j (Execute (Simple (Expression (PostIncrement o x))) exits)
   post_raise_built o q r t = discarded_built (PostIncrement o x) (post_increment_taken k o (raise_node (still k.extends h) q) r) t
 
@@ -126,10 +127,30 @@ module _ {kinds : ProgramKinds} {parameters : List FormalParameter} {a b c : Bui
   pre_update_built k o q = told_as (Assign (assigned_by_one o) x (Number (pos 1))) (PreIncrement o x) (λ functions s. raised_by_one functions o x s) (update_built h (assigned_by_one o) (number_operand (pos 1)) k q)
 
   pub pre_raise_built : {d f g : Builder} {j l m : ℕ} {place : Place} → FindsPlace kinds parameters a b place x → (o : IncrementOperator) → Pushes b c (n.Assign (assigned_by_one o) place exits.next) l → Pushes c d (n.Value (v.Put (operand.Constant one)) l) i
-      → Builds kinds parameters d f j (EvaluateOperand x i) → Pushes f g (n.Effect e.Spend j) m → Builds kinds parameters a g m (Execute (Simple (Expression (PreIncrement o x))) exits)
+      → Builds kinds parameters d f j (EvaluateOperand x i) → Pushes f g (n.Spend j) m → Builds kinds parameters a g m (Execute (Simple (Expression (PreIncrement o x))) exits)
   pre_raise_built k o q q' r t =
       told_as (Assign (assigned_by_one o) x (Number (pos 1))) (PreIncrement o x) (λ functions s. raised_by_one functions o x s)
       (assignment_built h k (assigned_by_one o) q (number_lowered (pos 1) (takes_stand (assign_node {kinds = kinds} {parameters = parameters} (still k.extends h) q)) q') r t)
+
+-- of what is exchanged the count is of no use
+abbrev nothing : Run (Unit {0})
+nothing = ret tt
+
+count_dropped : (m rest : Run Value) (s : State) → ((spend >>= λ _. m >>= λ _. nothing) >>= λ _. rest) s ≡ ((spend >>= λ _. m) >>= λ _. rest) s
+count_dropped m rest s =
+    let on = λ (_ : Unit {0}). rest in
+    assoc_at spend (λ _. m >>= λ _. nothing) on s
+    ∙ later_same spend _ _ s (λ _ t. assoc_at m (λ _. nothing) on t ∙ later_same m _ _ t (λ _ u. given tt on u))
+    ∙ sym (assoc_at spend (λ _. m) (λ _. rest) s)
+
+pub exchange_built : {kinds : ProgramKinds} {parameters : List FormalParameter} {a b c : Builder} {exits : Exits} {i : ℕ} {y : Expr} {x : Exchange} → Stands exits.next a → FindsAnExchange kinds parameters a b x y → Pushes b c (n.Effect (effect.Exchange x) exits.next) i
+    → Builds kinds parameters a c i (Execute (Simple (Expression y)) exits)
+exchange_built {exits = exits} {y = y} {x = x} h f q =
+    let node = placed q (still f.extends h).below in
+    let exchanges = λ (p : Program _). substitute_in p.tables x.all x.ere x.replacement x.variable in
+    changed y exchanges f.extends (still f.extends h) node
+    (λ p g m vs s. at_once (node.is p g m) vs s ∙ count_dropped (exchanges p) (place_in p m exits.next vs) s)
+    (λ p g m s l. f.is.is p (grows node.extends.grows g) m s l)
 
 -- a change behind something else
 pub change_behind : {a b : Builder} (c : Builder) (exits : Exits) (scope : Scope) (place : Option ℕ) (e : Expr) → Extends a b → LowersChange scope b c place e exits → LowersChange scope a c place e exits

@@ -20,6 +20,7 @@ use Rattle.awk_semantics.specs.definitions.Semantics.{right_operand, tested, cho
 use Rattle.awk_semantics.proofs.KeepsForms.{keeps_eval}
 use Rattle.awk_resolve.specs.declared.builder.Builder.{Builder}
 use Rattle.awk_resolve.specs.declared.node.Operand.TheVariants as operand
+use Rattle.awk_resolve.specs.declared.node.Tested.TheVariants as asks
 use Rattle.awk_resolve.specs.declared.node.Node.TheVariants as n
 use Rattle.awk_resolve.specs.support.Builds.{Pushes, AddsEre, Evaluate, Decide, place_in, Builds, Stands}
 use Rattle.awk_resolve.specs.support.Operands.{is_not, is_and, is_or, PushesTruths}
@@ -122,14 +123,14 @@ mismatched text (Err h) x y s = stopped h (λ w. choose (truth_of w) y x) s ∙ 
 
 -- tests
 
-pub test_lowered : {kinds : ProgramKinds} {parameters : List FormalParameter} {a b c : Builder} {i j here other : ℕ} {e : Expr} → Stands here a → Stands other a → Pushes a b (n.Test here other) j → Builds kinds parameters b c i (Evaluate e j) → Builds kinds parameters a c i (Decide e here other)
-test_lowered {e = e} h h' q r =
+pub test_lowered : {kinds : ProgramKinds} {parameters : List FormalParameter} {a b c : Builder} {i j here other : ℕ} {e : Expr} → Stands here a → Stands other a → Pushes a b (n.Test asks.Top here other) j → Builds kinds parameters b c i (Evaluate e j) → Builds kinds parameters a c i (Decide e here other)
+test_lowered {here = here} {other = other} {e = e} h h' q r =
     let o = placed q (h.below, h'.below) in
     record {
       extends = extends o.extends r.extends;
       below = r.below;
       pos = r.pos;
-      is = λ p g m vs s l. r.is p g m vs s l ∙ later_in _ _ s m (keeps_eval p.functions p.calls.keep e) l (λ v u k. at_once (o.is p (grows r.extends.grows g) m) (v ∷ vs) u);
+      is = λ p g m vs s l. r.is p g m vs s l ∙ later_in _ _ s m (keeps_eval p.functions p.calls.keep e) l (λ v u k. at_once (o.is p (grows r.extends.grows g) m) (v ∷ vs) u ∙ given (truth_of v) (λ b. choose b (place_in p m here vs) (place_in p m other vs)) u);
     }
 
 pub ere_tested : {kinds : ProgramKinds} {parameters : List FormalParameter} {a b c : Builder} {i here other number : ℕ} {text : List ℕ} → Stands here a → Stands other a → AddsEre a b number text → Pushes b c (n.Match (operand.Field 0) number here other) i → Builds kinds parameters a c i (Decide (Ere text) here other)

@@ -4,7 +4,7 @@ use Rattle.std.proofs.Common.{◌≡◌, ℕ, pos, zero, suc, ◌≤◌, Bool, L
 use Rattle.std.specs.List.{concat}
 use Rattle.awk_value.specs.declared.value.Value.{Value}
 use Rattle.awk_value.specs.declared.value.Value.TheVariants as value
-use Rattle.awk_value.specs.Values.{str_of}
+use Rattle.awk_value.specs.Values.{str_of, truth_of}
 use Rattle.awk_lex.specs.declared.token.IncrementOperator.{IncrementOperator}
 use Rattle.awk_lex.specs.declared.token.Operator.{Operator}
 use Rattle.awk_text.specs.definitions.Separators.{Separator}
@@ -48,11 +48,13 @@ use Rattle.awk_resolve.specs.declared.node.Target.TheVariants as target
 use Rattle.awk_resolve.specs.declared.node.Source.{Source}
 use Rattle.awk_resolve.specs.declared.node.Source.TheVariants as source
 use Rattle.awk_resolve.specs.declared.node.SplitBy.TheVariants as by
+use Rattle.awk_resolve.specs.declared.node.Tested.{Tested}
+use Rattle.awk_resolve.specs.declared.node.Tested.TheVariants as tested
 use Rattle.awk_resolve.specs.declared.node.ValueNode.{ValueNode}
 use Rattle.awk_resolve.specs.declared.node.ValueNode.TheVariants as v
 use Rattle.awk_resolve.specs.declared.node.EffectNode.{EffectNode}
 use Rattle.awk_resolve.specs.declared.node.EffectNode.TheVariants as e
-use Rattle.awk_resolve.specs.definitions.Nodes.{operand_value, operated_with, operated_on, operand_values, key_value, assign_variable, append_to, append_operands_at, append_operands, append_by_step, print_operands, assign_target, raise_target, update, increment, Tables, first, second, taken, given_by, call_at, substitute_by, substitute, substitute_in, getline_by, value_of, target_by, effect_of, outside_value}
+use Rattle.awk_resolve.specs.definitions.Nodes.{operand_value, operated_with, operated_on, operand_values, key_value, assign_variable, append_to, append_operands_at, append_operands, append_by_step, print_by_step, assign_target, raise_target, update, increment, Tables, first, second, taken, given_by, call_at, substitute_by, substitute, substitute_in, getline_by, value_of, asked, target_by, effect_of, outside_value}
 
 pub record Falls {A : Type 0} (m : Run A) : Type 0 where
   pub falls : (s : State) → (m s).state.steps ≤ s.steps
@@ -123,7 +125,7 @@ count_falls : (a : Array) → Falls (count_elements_at a)
 unfolding count_elements_at
 count_falls a = falls_at _ (λ s. ((array_length_at (number_at a s) >>= λ n. count_value n), then_falls _ (kept_falls (keeps_array_length_at (number_at a s))) (λ n. lift_falls _), refl))
 
-pub inside_falls : (i : ℕ) → Falls (is_inside i)
+inside_falls : (i : ℕ) → Falls (is_inside i)
 inside_falls i = kept_falls (keeps_is_inside i)
 
 pub keys_falls : (a : Array) → Falls (keys_of_array a)
@@ -208,8 +210,8 @@ module _ (names : List (List ℕ)) where
   pub append_by_step_falls : (t : Target) (list : List Operand) → Falls (append_by_step names t list)
   append_by_step_falls t list = then_falls _ (kept_falls keeps_spend) (λ _. append_operands_falls t list)
 
-  pub print_operands_falls : (list : List Operand) → Falls (print_operands names list)
-  print_operands_falls list = then_falls _ (operands_fall list) (λ ws. kept_falls (keeps_print_line 0 ws))
+  pub print_by_step_falls : (list : List Operand) → Falls (print_by_step names list)
+  print_by_step_falls list = then_falls _ (kept_falls keeps_spend) (λ _. then_falls _ (operands_fall list) (λ ws. kept_falls (keeps_print_line 0 ws)))
 
   assign_target_falls : (o : AssignmentOperator) (t : Target) (a : Operand) → Falls (assign_target names o t a)
   assign_target_falls o (target.Variable x) a = then_falls _ (operand_falls a) (λ w. assign_variable_falls o x w)
@@ -283,6 +285,12 @@ module _ (tables : Tables) where
   substitute_in_falls all i w None = then_falls _ (kept_falls keeps_record_text) (λ old. substitute_at_falls tables.names all _ _ place.Field (value.Number (pos 0)) old)
   substitute_in_falls all i w (Some x) = then_falls _ (read_variable_falls tables.names x) (λ old. substitute_at_falls tables.names all _ _ (place.Variable x) value.Nothing old)
 
+  pub asked_falls : (x : Tested) (vs : List Value) → Falls (asked tables x vs)
+  asked_falls tested.Top vs = lift_falls (Ok (truth_of (first vs)))
+  asked_falls (tested.Inside i) vs = inside_falls i
+  asked_falls (tested.Raised o t) vs = then_falls _ (raise_target_falls tables.names o t) (λ w. lift_falls (Ok (truth_of w)))
+  asked_falls (tested.Element a k) vs = then_falls _ (key_falls tables.names k) (λ w. contains_falls a (str_of w))
+
   getline_falls : (x : Source) (p : Option Place) (vs : List Value) → Falls (getline_by tables x p vs)
   getline_falls source.Main p vs = main_getline_falls tables.names p (first vs)
   getline_falls source.File p vs = named_getline_falls tables.names input.File _ p (second vs)
@@ -335,8 +343,8 @@ module _ (tables : Tables) where
     value_falls (v.Outside call) vs = outside_falls call vs
     value_falls (v.Call f fs) vs = call_falls _ fs.items _
 
-    pub effect_falls : (x : EffectNode) (vs : List Value) → Falls (effect_of functions x vs)
-    effect_falls e.Spend vs = kept_falls keeps_spend
+    pub effect_falls : (x : EffectNode) (vs : List Value) → Falls (effect_of tables functions x vs)
+    effect_falls (e.Exchange x) vs = then_falls _ (kept_falls keeps_spend) (λ _. then_falls _ (substitute_in_falls x.all x.ere x.replacement x.variable) (λ _. lift_falls (Ok tt)))
     effect_falls (e.Drop k) vs = lift_falls (Ok tt)
     effect_falls (e.Delete a) vs = delete_falls a _
     effect_falls (e.Clear a) vs = clear_falls a

@@ -20,10 +20,11 @@ use Rattle.awk_semantics.specs.support.Keeps.{Keeps, CallsKeep}
 use Rattle.awk_semantics.proofs.KeepsForms.{keeps_is_inside, keeps_set_inside, keeps_eval, law_of_keeping}
 use Rattle.awk_semantics.proofs.Keeping.{keeps_lift}
 use Rattle.awk_resolve.specs.declared.builder.Builder.{Builder}
+use Rattle.awk_resolve.specs.declared.node.Tested.TheVariants as asks
 use Rattle.awk_resolve.specs.declared.node.Node.TheVariants as n
 use Rattle.awk_resolve.specs.declared.node.EffectNode.TheVariants as e
 use Rattle.awk_resolve.specs.definitions.Plans.{Meaning, begin_run, rules_run, end_run}
-use Rattle.awk_resolve.specs.support.Builds.{Grows, Pushes, Extends, IsIn, Program, EvaluateAll, Decide, Execute, ExecuteAll, leave_by, place_in, Places, Builds, Stands}
+use Rattle.awk_resolve.specs.support.Builds.{Pushes, Extends, IsIn, EvaluateAll, Decide, Execute, ExecuteAll, leave_by, place_in, Builds, Stands}
 use Rattle.awk_resolve.specs.support.Holding.{IsOver, IsAction, AddsPlace, Passes, Selects}
 use Rattle.awk_resolve.proofs.Calculus.{assoc_at, given, later_same, later_in}
 use Rattle.awk_resolve.proofs.Building.{grows, longer, same, stands, placed, at_once, chosen, both}
@@ -77,7 +78,7 @@ module _ {kinds : ProgramKinds} where
         ∙ later_same (print_of p.functions form.Print (Bare Nil) Standard) _ _ s (λ _ t. given flow.Normal out t);
   }
 
-  pub print_passes : {a b c : Builder} {next to i : ℕ} → Stands next a → Pushes a b (n.Effect (e.Print form.Print 0 None) next) to → Pushes b c (n.Effect e.Spend to) i → Passes kinds a c i print_record next
+  pub print_passes : {a b c : Builder} {next to i : ℕ} → Stands next a → Pushes a b (n.Effect (e.Print form.Print 0 None) next) to → Pushes b c (n.Spend to) i → Passes kinds a c i print_record next
   print_passes {next = next} h at_to at_print =
       let to_placed = placed {kinds = kinds} at_to h.below in
       let to_stands : Stands _ _ = record { below = to_placed.below; pos = (let f = to_placed.fresh in let l = h.below in omega (arith, f, l)) } in
@@ -138,7 +139,7 @@ module _ {kinds : ProgramKinds} where
   }
 
   pub range_selects : {a b c d f g : Builder} {number ends through begins outside i here other : ℕ} {from to : Expr} → Stands here a → Pushes a b (n.Effect (e.SetInside number false) here) ends → Builds kinds [] b c through (Decide to ends here)
-      → Pushes c d (n.Effect (e.SetInside number true) through) begins → Builds kinds [] d f outside (Decide from begins other) → Pushes f g (n.TestInside number through outside) i → Selects kinds a g i number (Range from to) here other
+      → Pushes c d (n.Effect (e.SetInside number true) through) begins → Builds kinds [] d f outside (Decide from begins other) → Pushes f g (n.Test (asks.Inside number) through outside) i → Selects kinds a g i number (Range from to) here other
   range_selects {number = number} {ends = ends} {through = through} {begins = begins} {outside = at_outside} {here = here} {other = other} {from = from} {to = to} stand at_ends ending at_begins beginning at_test =
       let ends_placed = placed {kinds = kinds} at_ends stand.below in
       let begins_placed = placed {kinds = kinds} at_begins ending.below in

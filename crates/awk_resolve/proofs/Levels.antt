@@ -7,12 +7,13 @@ use Rattle.awk_semantics.specs.definitions.State.{State, Run, go_on, ◌>>=◌}
 use Rattle.awk_semantics.specs.definitions.Primitives.{spend, spend_of}
 use Rattle.awk_semantics.specs.definitions.Semantics.{Functions, choose}
 use Rattle.awk_semantics.specs.support.Keeps.{scope_of, CallsKeep}
+use Rattle.awk_semantics.proofs.KeepsForms.{keeps_spend}
 use Rattle.awk_resolve.specs.declared.node.ValueNode.TheVariants as v
 use Rattle.awk_resolve.specs.declared.node.Node.{Node}
 use Rattle.awk_resolve.specs.declared.node.Node.TheVariants as node
-use Rattle.awk_resolve.specs.definitions.Nodes.{Tables, Cont, nothing, first, second, taken, popped, dropped, walk_values, keys_left, next_key_by, made, conts, level, cont_at}
+use Rattle.awk_resolve.specs.definitions.Nodes.{Tables, Cont, nothing, first, second, taken, popped, dropped, asked_operands, walk_values, keys_left, next_key_by, made, conts, level, cont_at}
 use Rattle.awk_resolve.proofs.Calculus.{later_falls}
-use Rattle.awk_resolve.proofs.Falling.{Falls, value_falls, effect_falls, inside_falls, keys_falls, put_variable_falls, operated_with_falls, operated_on_falls, append_to_falls, append_by_step_falls, print_operands_falls, update_falls, increment_falls}
+use Rattle.awk_resolve.proofs.Falling.{Falls, value_falls, effect_falls, asked_falls, kept_falls, keys_falls, put_variable_falls, operated_with_falls, operated_on_falls, append_to_falls, append_by_step_falls, print_by_step_falls, update_falls, increment_falls}
 
 abbrev Agree : ℕ → Cont → Cont → Type 0
 Agree n f g = (vs : List Value) (s : State) → s.steps ≤ n → f vs s ≡ g vs s
@@ -46,18 +47,18 @@ module _ (tables : Tables) (functions : Functions) (calls : CallsKeep functions)
     made_agrees : (f g : ℕ → Cont) → ((i : ℕ) → Agree n (f i) (g i)) → (x : Node) → Agree n (made tables functions again f x) (made tables functions again' g x)
     made_agrees f g e (node.Value x k) vs s low = later_low _ _ s n (value_falls tables functions calls x vs) low (λ w t h. e k (w ∷ drop (popped x) vs) t h)
     made_agrees f g e (node.Effect x k) vs s low = later_low _ _ s n (effect_falls tables functions calls x vs) low (λ _ t h. e k (drop (dropped x) vs) t h)
-    made_agrees f g e (node.Test a b) vs s low = chosen (truth_of (first vs)) _ _ _ _ s (e a (drop 1 vs) s low) (e b (drop 1 vs) s low)
+    made_agrees f g e (node.Spend k) vs s low = later_low _ _ s n (kept_falls keeps_spend) low (λ _ t h. e k vs t h)
+    made_agrees f g e (node.Test x here other) vs s low = later_low _ _ s n (asked_falls tables x vs) low (λ b t h. chosen b _ _ _ _ t (e here (drop (asked_operands x) vs) t h) (e other (drop (asked_operands x) vs) t h))
     made_agrees f g e (node.CompareWith o b here other) vs s low = later_low _ _ s n (operated_with_falls tables.names o (first vs) b) low (λ x t h. chosen (truth_of x) _ _ _ _ t (e here (drop 1 vs) t h) (e other (drop 1 vs) t h))
     made_agrees f g e (node.Compare o a b here other) vs s low = later_low _ _ s n (operated_on_falls tables.names o a b) low (λ x t h. chosen (truth_of x) _ _ _ _ t (e here vs t h) (e other vs t h))
     made_agrees f g e (node.Match a i here other) vs s low = later_low _ _ s n (value_falls tables functions calls (v.Matches a i) vs) low (λ x t h. chosen (truth_of x) _ _ _ _ t (e here vs t h) (e other vs t h))
-    made_agrees f g e (node.TestInside i here other) vs s low = later_low _ _ s n (inside_falls i) low (λ b t h. chosen b _ _ _ _ t (e here vs t h) (e other vs t h))
     made_agrees f g e (node.Assign o p k) vs s low = later_low _ _ s n (value_falls tables functions calls (v.Assign o p) vs) low (λ _ t h. e k (drop (popped (v.Assign o p)) vs) t h)
     made_agrees f g e (node.Raise o p k) vs s low = later_low _ _ s n (value_falls tables functions calls (v.PostIncrement o p) vs) low (λ _ t h. e k (drop (popped (v.PostIncrement o p)) vs) t h)
     made_agrees f g e (node.Update o r a k) vs s low = later_low _ _ s n (update_falls tables.names o r a) low (λ _ t h. e k vs t h)
     made_agrees f g e (node.Increment o r k) vs s low = later_low _ _ s n (increment_falls tables.names o r) low (λ _ t h. e k vs t h)
     made_agrees f g e (node.AppendTo x count k) vs s low = later_low _ _ s n (append_to_falls tables.names x (taken count vs)) low (λ _ t h. e k (drop count vs) t h)
     made_agrees f g e (node.AppendOperands x list k) vs s low = later_low _ _ s n (append_by_step_falls tables.names x list.items) low (λ _ t h. e k vs t h)
-    made_agrees f g e (node.Print list k) vs s low = later_low _ _ s n (print_operands_falls tables.names list.items) low (λ _ t h. e k vs t h)
+    made_agrees f g e (node.Print list k) vs s low = later_low _ _ s n (print_by_step_falls tables.names list.items) low (λ _ t h. e k vs t h)
     made_agrees f g e (node.Again i) vs s low = same i vs s low
     made_agrees f g e (node.Walk a k) vs s low = later_low _ _ s n (keys_falls a) low (λ keys t h. e k (walk_values keys ++ vs) t h)
     made_agrees f g e (node.NextKey i exit) vs s low = next_by (keys_left (first vs)) _ _ _ _ s (same i vs s low) (e exit (drop 1 vs) s low)

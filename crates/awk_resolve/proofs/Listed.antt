@@ -3,14 +3,14 @@ use Rattle.std.proofs.Common.{◌≡◌, ℕ, zero, suc, ◌+◌, ◌-◌, ◌<�
 use Rattle.awk_value.specs.declared.value.Value.TheVariants as value
 use Rattle.awk_value.specs.Values.{truth_of}
 use Rattle.awk_semantics.specs.definitions.State.{◌>>=◌}
-use Rattle.awk_semantics.specs.definitions.Primitives.{is_inside}
+use Rattle.awk_semantics.specs.definitions.Primitives.{spend}
 use Rattle.awk_semantics.specs.definitions.Semantics.{Functions, choose}
 use Rattle.awk_storage.specs.definitions.Positions.{put_variable}
 use Rattle.awk_storage.specs.definitions.Forms.{keys_of_array}
 use Rattle.awk_resolve.specs.declared.node.ValueNode.TheVariants as v
 use Rattle.awk_resolve.specs.declared.node.Node.{Node}
 use Rattle.awk_resolve.specs.declared.node.Node.TheVariants as n
-use Rattle.awk_resolve.specs.definitions.Nodes.{operated_with, operated_on, append_to, append_by_step, print_operands, update, increment, Tables, Cont, nothing, first, second, taken, value_of, popped, effect_of, dropped, walk_values, keys_left, next_key_by, made as made_with, conts as conts_with, level, cont_at as cont_with, AreBelow, IsOrdered}
+use Rattle.awk_resolve.specs.definitions.Nodes.{operated_with, operated_on, append_to, append_by_step, print_by_step, asked, asked_operands, update, increment, Tables, Cont, nothing, first, second, taken, value_of, popped, effect_of, dropped, walk_values, keys_left, next_key_by, made as made_with, conts as conts_with, level, cont_at as cont_with, AreBelow, IsOrdered}
 
 abbrev at_place : List Cont → ℕ → Cont
 at_place done i = get_or done i nothing
@@ -42,19 +42,19 @@ module _ (tables : Tables) (functions : Functions) (again : ℕ → Cont) where
 
   made_alike : (f g : ℕ → Cont) (k : ℕ) → ((i : ℕ) → i < k → f i ≡ g i) → (node : Node) → AreBelow k node → made f node ≡ made g node
   made_alike f g k same (n.Value x i) h = λ j vs. value_of tables functions x vs >>= λ w. same i h j (w ∷ drop (popped x) vs)
-  made_alike f g k same (n.Effect x i) h = λ j vs. effect_of functions x vs >>= λ _. same i h j (drop (dropped x) vs)
-  made_alike f g k same (n.Test here other) h = λ j vs. choose (truth_of (first vs)) (same here h.0 j (drop 1 vs)) (same other h.1 j (drop 1 vs))
+  made_alike f g k same (n.Effect x i) h = λ j vs. effect_of tables functions x vs >>= λ _. same i h j (drop (dropped x) vs)
+  made_alike f g k same (n.Spend i) h = λ j vs. spend >>= λ _. same i h j vs
+  made_alike f g k same (n.Test x here other) h = λ j vs. asked tables x vs >>= λ holds. choose holds (same here h.0 j (drop (asked_operands x) vs)) (same other h.1 j (drop (asked_operands x) vs))
   made_alike f g k same (n.CompareWith o b here other) h = λ j vs. operated_with tables.names o (first vs) b >>= λ x. choose (truth_of x) (same here h.0 j (drop 1 vs)) (same other h.1 j (drop 1 vs))
   made_alike f g k same (n.Compare o a b here other) h = λ j vs. operated_on tables.names o a b >>= λ x. choose (truth_of x) (same here h.0 j vs) (same other h.1 j vs)
   made_alike f g k same (n.Match a i here other) h = λ j vs. value_of tables functions (v.Matches a i) vs >>= λ x. choose (truth_of x) (same here h.0 j vs) (same other h.1 j vs)
-  made_alike f g k same (n.TestInside i here other) h = λ j vs. is_inside i >>= λ inside. choose inside (same here h.0 j vs) (same other h.1 j vs)
   made_alike f g k same (n.Assign o p i) h = λ j vs. value_of tables functions (v.Assign o p) vs >>= λ _. same i h j (drop (popped (v.Assign o p)) vs)
   made_alike f g k same (n.Raise o p i) h = λ j vs. value_of tables functions (v.PostIncrement o p) vs >>= λ _. same i h j (drop (popped (v.PostIncrement o p)) vs)
   made_alike f g k same (n.Update o t a i) h = λ j vs. update tables.names o t a >>= λ _. same i h j vs
   made_alike f g k same (n.Increment o t i) h = λ j vs. increment tables.names o t >>= λ _. same i h j vs
   made_alike f g k same (n.AppendTo x count i) h = λ j vs. append_to tables.names x (taken count vs) >>= λ _. same i h j (drop count vs)
   made_alike f g k same (n.AppendOperands t list i) h = λ j vs. append_by_step tables.names t list.items >>= λ _. same i h j vs
-  made_alike f g k same (n.Print list i) h = λ j vs. print_operands tables.names list.items >>= λ _. same i h j vs
+  made_alike f g k same (n.Print list i) h = λ j vs. print_by_step tables.names list.items >>= λ _. same i h j vs
   made_alike f g k same (n.Again i) h = refl
   made_alike f g k same (n.Walk a i) h = λ j vs. keys_of_array a >>= λ keys. same i h j (walk_values keys ++ vs)
   made_alike f g k same (n.NextKey i exit) h = λ j vs. next_key_by (keys_left (first vs)) (again i vs) (same exit h j (drop 1 vs))

@@ -13,7 +13,6 @@ use Rattle.awk_semantics.specs.support.Keeps.{Keeps}
 use Rattle.awk_semantics.proofs.Keeping.{keeps_lift}
 use Rattle.awk_semantics.proofs.KeepsForms.{keeps_eval, keeps_tested, keeps_exec, keeps_exec_part, keeps_goes_on, keeps_repeat}
 use Rattle.awk_resolve.specs.declared.node.Node.TheVariants as n
-use Rattle.awk_resolve.specs.declared.node.EffectNode.TheVariants as e
 use Rattle.awk_resolve.specs.declared.builder.Builder.{Builder}
 use Rattle.awk_resolve.specs.declared.builder.Exits.{Exits}
 use Rattle.awk_resolve.specs.definitions.Nodes.{Cont}
@@ -105,7 +104,7 @@ module _ {kinds : ProgramKinds} {parameters : List FormalParameter} where
       )
 
   pub while_built : {a b c d f g h : Builder} {x : Expr} {y : Statement} {exits : Exits} {number again cond first j : ℕ} → Opens a b number → Pushes b c (n.Again number) again → Builds kinds parameters c d cond (Decide x again exits.next)
-      → Builds kinds parameters d f first (Execute y (record { next = cond; breaks = exits.next; continues = cond })) → Closes f g number first → Pushes g h (n.Effect e.Spend cond) j
+      → Builds kinds parameters d f first (Execute y (record { next = cond; breaks = exits.next; continues = cond })) → Closes f g number first → Pushes g h (n.Spend cond) j
       → Builds kinds parameters a h j (Execute (While x y) exits)
   while_built {x = x} {y = y} {exits = exits} {cond = cond} p q t r w z =
       let built = plain_parts p q t r w in
@@ -115,7 +114,7 @@ module _ {kinds : ProgramKinds} {parameters : List FormalParameter} where
       (λ functions at vs s. while_then functions (leave_by exits at vs) s x y)
 
   pub do_built : {a b c d f g h : Builder} {x : Expr} {y : Statement} {exits : Exits} {number again cond first j : ℕ} → Opens a b number → Pushes b c (n.Again number) again → Builds kinds parameters c d cond (Decide x again exits.next)
-      → Builds kinds parameters d f first (Execute y (record { next = cond; breaks = exits.next; continues = cond })) → Closes f g number first → Pushes g h (n.Effect e.Spend again) j
+      → Builds kinds parameters d f first (Execute y (record { next = cond; breaks = exits.next; continues = cond })) → Closes f g number first → Pushes g h (n.Spend again) j
       → Builds kinds parameters a h j (Execute (Do y x) exits)
   do_built {x = x} {y = y} {exits = exits} {again = again} p q t r w z =
       let built = plain_parts p q t r w in
@@ -127,7 +126,7 @@ module _ {kinds : ProgramKinds} {parameters : List FormalParameter} where
 
   pub for_built : {a b c d f g h k l : Builder} {first last : OptionalSimple} {x : OptionalExpr} {y : Statement} {exits : Exits} {number again cond behind body i j : ℕ} → Opens a b number → Pushes b c (n.Again number) again
       → Builds kinds parameters c d cond (DecideOptional x again exits.next) → Builds kinds parameters d f behind (ExecutePart last cond) → Builds kinds parameters f g body (Execute y (record { next = behind; breaks = exits.next; continues = behind }))
-      → Closes g h number body → Builds kinds parameters h k i (ExecutePart first cond) → Pushes k l (n.Effect e.Spend i) j → Builds kinds parameters a l j (Execute (For first x last y) exits)
+      → Closes g h number body → Builds kinds parameters h k i (ExecutePart first cond) → Pushes k l (n.Spend i) j → Builds kinds parameters a l j (Execute (For first x last y) exits)
   for_built {first = first} {last = last} {x = x} {y = y} {exits = exits} p q t u r w v z =
       let o = placed q tt in
       let shut = enclosed p (extends o.extends (extends t.extends (extends u.extends r.extends))) w in

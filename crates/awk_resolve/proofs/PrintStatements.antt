@@ -14,7 +14,7 @@ use Rattle.awk_semantics.specs.definitions.State.{State, Run, ◌>>=◌, ret}
 use Rattle.awk_semantics.specs.definitions.Primitives.{spend, print_line, delete_element, clear_array}
 use Rattle.awk_semantics.specs.definitions.Streams.{open_target}
 use Rattle.awk_semantics.specs.definitions.Semantics.{Functions, eval, eval_all, key_of, printed_values, target_of, print_by}
-use Rattle.awk_semantics.proofs.KeepsForms.{keeps_eval}
+use Rattle.awk_semantics.proofs.KeepsForms.{keeps_spend, keeps_eval}
 use Rattle.awk_storage.specs.declared.position.Array.{Array}
 use Rattle.awk_storage.specs.definitions.Forms.{delete_at, clear_at}
 use Rattle.awk_resolve.specs.declared.node.Node.TheVariants as n
@@ -80,7 +80,7 @@ module _ {kinds : ProgramKinds} {parameters : List FormalParameter} where
   -- prints
 
   pub print_built : {a b c d : Builder} {form : PrintForm} {list : PrintList} {exits : Exits} {count i j l : ℕ} → Stands exits.next a → count ≡ count_of (listed list) → Pushes a b (n.Effect (e.Print form count None) exits.next) l
-      → Builds kinds parameters b c i (EvaluateAll (listed list) l) → Pushes c d (n.Effect e.Spend i) j → Builds kinds parameters a d j (Execute (Simple (Print form list Standard)) exits)
+      → Builds kinds parameters b c i (EvaluateAll (listed list) l) → Pushes c d (n.Spend i) j → Builds kinds parameters a d j (Execute (Simple (Print form list Standard)) exits)
   print_built {form = form} {list = list} {exits = exits} h is p q r =
       let o = placed p h.below in
       stepped (Execute (Simple (Print form list Standard)) exits)
@@ -111,27 +111,31 @@ module _ {kinds : ProgramKinds} {parameters : List FormalParameter} where
       ∙ sym (all_first p.functions x es rest s)
 
   -- operands that are read where they stand
-  pub operands_print_built : {a b c d : Builder} {list : PrintList} {found : Vec Operand} {exits : Exits} {i j : ℕ} → Stands exits.next a → 0 < count_of (listed list) → FindsEachOperand kinds parameters a b found.items (listed list) → Pushes b c (n.Print found exits.next) i
-      → Pushes c d (n.Effect e.Spend i) j → Builds kinds parameters a d j (Execute (Simple (Print form.Print list Standard)) exits)
-  operands_print_built {list = list} {found = found} {exits = exits} h some f q r =
+  pub operands_print_built : {a b c : Builder} {list : PrintList} {found : Vec Operand} {exits : Exits} {i : ℕ} → Stands exits.next a → 0 < count_of (listed list) → FindsEachOperand kinds parameters a b found.items (listed list) → Pushes b c (n.Print found exits.next) i
+      → Builds kinds parameters a c i (Execute (Simple (Print form.Print list Standard)) exits)
+  operands_print_built {list = list} {found = found} {exits = exits} h some f q =
       let o = placed q (still f.extends h).below in
       let print : Functions → (ℕ → Cont) → List Value → List Value → Run Value = λ functions at vs ws. target_of functions Standard >>= λ to. print_by functions form.Print to ws >>= λ _. at exits.next vs in
-      stepped (Execute (Simple (Print form.Print list Standard)) exits)
-      (λ functions at vs. eval_all functions [] (listed list) >>= print functions at vs)
-      (extends f.extends o.extends) r o.below
-      (λ p g m vs s i.
-      let rest = λ (_ : Unit {0}). place_in p m exits.next vs in
-      at_once (o.is p g m) vs s
-      ∙ assoc_at (operand_values p.tables.names found.items) (λ ws. print_line 0 ws) rest s
-      ∙ values_then p (grows o.extends.grows g) found.items (listed list) f.are (λ ws. print_line 0 ws >>= rest) m s i
-      ∙ counted p.functions p.calls.keep (listed list) _ (print p.functions (place_in p m) vs) m s i (λ ws t long k. line_printed p.functions ws (omega (arith, long, some)) (place_in p m exits.next vs) t))
-      (λ functions at vs s.
-      simple_then functions (leave_by exits at vs) s (Print form.Print list Standard)
-      ∙ print_then functions (leave_by exits at vs) s form.Print list Standard
-      ∙ ap (λ (values : Run (List Value)). (spend >>= λ _. values >>= print functions at vs) s) (same_values functions list))
+      record {
+        extends = extends f.extends o.extends;
+        below = o.below;
+        pos = (let k = o.fresh in let l = (still f.extends h).below in omega (arith, k, l));
+        is = λ p g m vs s i.
+            let rest = λ (_ : Unit {0}). place_in p m exits.next vs in
+            let out = leave_by exits (place_in p m) vs in
+            at_once (o.is p g m) vs s
+            ∙ assoc_at spend (λ _. operand_values p.tables.names found.items >>= λ ws. print_line 0 ws) rest s
+            ∙ later_in _ _ s m keeps_spend i (λ _ t j.
+            assoc_at (operand_values p.tables.names found.items) (λ ws. print_line 0 ws) rest t
+            ∙ values_then p (grows o.extends.grows g) found.items (listed list) f.are (λ ws. print_line 0 ws >>= rest) m t j
+            ∙ counted p.functions p.calls.keep (listed list) _ (print p.functions (place_in p m) vs) m t j (λ ws u long k. line_printed p.functions ws (omega (arith, long, some)) (place_in p m exits.next vs) u))
+            ∙ sym (simple_then p.functions out s (Print form.Print list Standard)
+            ∙ print_then p.functions out s form.Print list Standard
+            ∙ ap (λ (values : Run (List Value)). (spend >>= λ _. values >>= print p.functions (place_in p m) vs) s) (same_values p.functions list));
+      }
 
   pub redirected_built : {a b c d f : Builder} {form : PrintForm} {list : PrintList} {way : Redirection} {x : Expr} {exits : Exits} {count i j k l : ℕ} → Stands exits.next a → count ≡ count_of (listed list)
-      → Pushes a b (n.Effect (e.Print form count (Some way)) exits.next) l → Builds kinds parameters b c k (Evaluate x l) → Builds kinds parameters c d i (EvaluateAll (listed list) k) → Pushes d f (n.Effect e.Spend i) j
+      → Pushes a b (n.Effect (e.Print form count (Some way)) exits.next) l → Builds kinds parameters b c k (Evaluate x l) → Builds kinds parameters c d i (EvaluateAll (listed list) k) → Pushes d f (n.Spend i) j
       → Builds kinds parameters a f j (Execute (Simple (Print form list (Redirected way x))) exits)
   redirected_built {form = form} {list = list} {way = way} {x = x} {exits = exits} h is p t q r =
       let o = placed p h.below in
@@ -152,7 +156,7 @@ module _ {kinds : ProgramKinds} {parameters : List FormalParameter} where
   -- deletions
 
   pub delete_built : {a b c d : Builder} {x : List ℕ} {es : Exprs} {position : Array} {exits : Exits} {i j l : ℕ} → Stands exits.next a → IsArrayOf kinds parameters position x → Pushes a b (n.Effect (e.Delete position) exits.next) l
-      → Builds kinds parameters b c i (EvaluateKey es l) → Pushes c d (n.Effect e.Spend i) j → Builds kinds parameters a d j (Execute (Simple (Delete x es)) exits)
+      → Builds kinds parameters b c i (EvaluateKey es l) → Pushes c d (n.Spend i) j → Builds kinds parameters a d j (Execute (Simple (Delete x es)) exits)
   delete_built {x = x} {es = es} {position = position} {exits = exits} h is p q r =
       let o = placed p h.below in
       stepped (Execute (Simple (Delete x es)) exits) (λ functions at vs. key_of functions [] es >>= λ key. delete_element x key >>= λ _. at exits.next vs) (extends o.extends q.extends) r q.below
@@ -165,7 +169,7 @@ module _ {kinds : ProgramKinds} {parameters : List FormalParameter} where
       ∙ keyed y.functions es rest s)
       (λ functions at vs s. simple_then functions (leave_by exits at vs) s (Delete x es) ∙ delete_then functions (leave_by exits at vs) s x es)
 
-  pub delete_all_built : {a b c : Builder} {x : List ℕ} {position : Array} {exits : Exits} {i j : ℕ} → Stands exits.next a → IsArrayOf kinds parameters position x → Pushes a b (n.Effect (e.Clear position) exits.next) i → Pushes b c (n.Effect e.Spend i) j
+  pub delete_all_built : {a b c : Builder} {x : List ℕ} {position : Array} {exits : Exits} {i j : ℕ} → Stands exits.next a → IsArrayOf kinds parameters position x → Pushes a b (n.Effect (e.Clear position) exits.next) i → Pushes b c (n.Spend i) j
       → Builds kinds parameters a c j (Execute (Simple (DeleteAll x)) exits)
   delete_all_built {x = x} {position = position} {exits = exits} h is p r =
       let o = placed p h.below in

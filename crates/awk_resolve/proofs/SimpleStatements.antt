@@ -75,7 +75,7 @@ module _ {kinds : ProgramKinds} {parameters : List FormalParameter} where
   decided {x = x} q p g m vs s i u w h k = q.is p g m vs s i ∙ later_in _ _ s m (keeps_eval p.functions p.calls.keep x) i (λ x' t j. both (truth_of x') _ _ _ _ t (h t j) (k t j))
 
   -- what spends a step as it begins
-  pub stepped : {a c d : Builder} {i j : ℕ} (part : Part) (rest : Functions → (ℕ → Cont) → Cont) → Extends a c → Pushes c d (n.Effect e.Spend i) j → i < length c.nodes.items
+  pub stepped : {a c d : Builder} {i j : ℕ} (part : Part) (rest : Functions → (ℕ → Cont) → Cont) → Extends a c → Pushes c d (n.Spend i) j → i < length c.nodes.items
       → ((p : Program kinds) → Grows c p.all → (m : ℕ) (vs : List Value) (s : State) → IsIn p.tables parameters m s → place_in p m i vs s ≡ rest p.functions (place_in p m) vs s)
       → ((functions : Functions) (at : ℕ → Cont) (vs : List Value) (s : State) → does part functions at vs s ≡ (spend >>= λ _. rest functions at vs) s)
       → Builds kinds parameters a d j part
@@ -91,7 +91,7 @@ module _ {kinds : ProgramKinds} {parameters : List FormalParameter} where
             ∙ sym (means p.functions (place_in p m) vs s);
       }
 
-  pub expression_built : {a b c d : Builder} {x : Expr} {exits : Exits} {i j l : ℕ} → Stands exits.next a → Pushes a b (n.Effect (e.Drop 1) exits.next) l → Builds kinds parameters b c i (Evaluate x l) → Pushes c d (n.Effect e.Spend i) j
+  pub expression_built : {a b c d : Builder} {x : Expr} {exits : Exits} {i j l : ℕ} → Stands exits.next a → Pushes a b (n.Effect (e.Drop 1) exits.next) l → Builds kinds parameters b c i (Evaluate x l) → Pushes c d (n.Spend i) j
       → Builds kinds parameters a d j (Execute (Simple (Expression x)) exits)
   expression_built {x = x} {exits = exits} h p q r =
       let o = placed p h.below in
@@ -99,14 +99,14 @@ module _ {kinds : ProgramKinds} {parameters : List FormalParameter} where
       (λ y g m vs s i. evaluated q y g m vs s i (λ w. place_in y m exits.next vs) (λ w t k. dropped_at o y (grows q.extends.grows g) m w vs t))
       (λ functions at vs s. simple_then functions (leave_by exits at vs) s (Expression x) ∙ expression_then functions (leave_by exits at vs) s x)
 
-  pub next_built : {a b c : Builder} {exits : Exits} {i j : ℕ} → Pushes a b (n.Stop ending.Next) i → Pushes b c (n.Effect e.Spend i) j → Builds kinds parameters a c j (Execute (Simple Next) exits)
+  pub next_built : {a b c : Builder} {exits : Exits} {i j : ℕ} → Pushes a b (n.Stop ending.Next) i → Pushes b c (n.Spend i) j → Builds kinds parameters a c j (Execute (Simple Next) exits)
   next_built {exits = exits} p r =
       let o = placed p tt in
       stepped (simply Next exits) (λ functions at vs. lift (Err halt.Next)) o.extends r o.below
       (λ y g m vs s i. at_once (o.is y g m) vs s)
       (λ functions at vs s. simple_then functions (leave_by exits at vs) s Next ∙ next_then functions (leave_by exits at vs) s)
 
-  pub next_file_built : {a b c d : Builder} {exits : Exits} {i j k : ℕ} → Pushes a b (n.Stop ending.Next) k → Pushes b c (n.Effect e.EndInput k) i → Pushes c d (n.Effect e.Spend i) j → Builds kinds parameters a d j (Execute (Simple NextFile) exits)
+  pub next_file_built : {a b c d : Builder} {exits : Exits} {i j k : ℕ} → Pushes a b (n.Stop ending.Next) k → Pushes b c (n.Effect e.EndInput k) i → Pushes c d (n.Spend i) j → Builds kinds parameters a d j (Execute (Simple NextFile) exits)
   next_file_built {exits = exits} p q r =
       let o = placed p tt in
       let u = placed q o.below in
@@ -114,26 +114,26 @@ module _ {kinds : ProgramKinds} {parameters : List FormalParameter} where
       (λ y g m vs s i. at_once (u.is y g m) vs s ∙ later_same close_main _ _ s (λ _ t. at_once (o.is y (grows u.extends.grows g) m) vs t))
       (λ functions at vs s. simple_then functions (leave_by exits at vs) s NextFile ∙ next_file_then functions (leave_by exits at vs) s)
 
-  pub break_built : {a b : Builder} {exits : Exits} {j : ℕ} → Stands exits.breaks a → Pushes a b (n.Effect e.Spend exits.breaks) j → Builds kinds parameters a b j (Execute (Simple Break) exits)
+  pub break_built : {a b : Builder} {exits : Exits} {j : ℕ} → Stands exits.breaks a → Pushes a b (n.Spend exits.breaks) j → Builds kinds parameters a b j (Execute (Simple Break) exits)
   break_built {exits = exits} h r =
       stepped (simply Break exits) (λ functions at vs. at exits.breaks vs) same r h.below
       (λ y g m vs s i. refl)
       (λ functions at vs s. simple_then functions (leave_by exits at vs) s Break ∙ break_then functions (leave_by exits at vs) s)
 
-  pub continue_built : {a b : Builder} {exits : Exits} {j : ℕ} → Stands exits.continues a → Pushes a b (n.Effect e.Spend exits.continues) j → Builds kinds parameters a b j (Execute (Simple Continue) exits)
+  pub continue_built : {a b : Builder} {exits : Exits} {j : ℕ} → Stands exits.continues a → Pushes a b (n.Spend exits.continues) j → Builds kinds parameters a b j (Execute (Simple Continue) exits)
   continue_built {exits = exits} h r =
       stepped (simply Continue exits) (λ functions at vs. at exits.continues vs) same r h.below
       (λ y g m vs s i. refl)
       (λ functions at vs s. simple_then functions (leave_by exits at vs) s Continue ∙ continue_then functions (leave_by exits at vs) s)
 
-  pub exit_built : {a b c : Builder} {exits : Exits} {i j : ℕ} → Pushes a b (n.Stop ending.Exit) i → Pushes b c (n.Effect e.Spend i) j → Builds kinds parameters a c j (Execute (Simple (Exit NoExpr)) exits)
+  pub exit_built : {a b c : Builder} {exits : Exits} {i j : ℕ} → Pushes a b (n.Stop ending.Exit) i → Pushes b c (n.Spend i) j → Builds kinds parameters a c j (Execute (Simple (Exit NoExpr)) exits)
   exit_built {exits = exits} p r =
       let o = placed p tt in
       stepped (simply (Exit NoExpr) exits) (λ functions at vs. lift (Err halt.Exit)) o.extends r o.below
       (λ y g m vs s i. at_once (o.is y g m) vs s)
       (λ functions at vs s. simple_then functions (leave_by exits at vs) s (Exit NoExpr) ∙ exit_then functions (leave_by exits at vs) s)
 
-  pub exit_with_built : {a b c d f : Builder} {x : Expr} {exits : Exits} {i j k l : ℕ} → Pushes a b (n.Stop ending.Exit) k → Pushes b c (n.Effect e.SetStatus k) l → Builds kinds parameters c d i (Evaluate x l) → Pushes d f (n.Effect e.Spend i) j
+  pub exit_with_built : {a b c d f : Builder} {x : Expr} {exits : Exits} {i j k l : ℕ} → Pushes a b (n.Stop ending.Exit) k → Pushes b c (n.Effect e.SetStatus k) l → Builds kinds parameters c d i (Evaluate x l) → Pushes d f (n.Spend i) j
       → Builds kinds parameters a f j (Execute (Simple (Exit (AnExpr x))) exits)
   exit_with_built {x = x} {exits = exits} {k = k} stop set q r =
       let o = placed stop tt in
@@ -143,7 +143,7 @@ module _ {kinds : ProgramKinds} {parameters : List FormalParameter} where
       (λ w t j. at_once (u.is y (grows q.extends.grows g) m) (w ∷ vs) t ∙ later_same (set_status w) _ _ t (λ _ t'. at_once (o.is y (grows u.extends.grows (grows q.extends.grows g)) m) vs t')))
       (λ functions at vs s. simple_then functions (leave_by exits at vs) s (Exit (AnExpr x)) ∙ exit_with_then functions (leave_by exits at vs) s x)
 
-  pub return_built : {a b c d : Builder} {exits : Exits} {i j l : ℕ} → Pushes a b n.Return l → Pushes b c (n.Value (v.Put (operand.Constant value.Nothing)) l) i → Pushes c d (n.Effect e.Spend i) j → Builds kinds parameters a d j (Execute (Simple (Return NoExpr)) exits)
+  pub return_built : {a b c d : Builder} {exits : Exits} {i j l : ℕ} → Pushes a b n.Return l → Pushes b c (n.Value (v.Put (operand.Constant value.Nothing)) l) i → Pushes c d (n.Spend i) j → Builds kinds parameters a d j (Execute (Simple (Return NoExpr)) exits)
   return_built {exits = exits} {l = l} p q r =
       let o = placed p tt in
       let u = placed q o.below in
@@ -151,7 +151,7 @@ module _ {kinds : ProgramKinds} {parameters : List FormalParameter} where
       (λ y g m vs s i. at_once (u.is y g m) vs s ∙ given value.Nothing (λ w. place_in y m l (w ∷ vs)) s ∙ at_once (o.is y (grows u.extends.grows g) m) (value.Nothing ∷ vs) s)
       (λ functions at vs s. simple_then functions (leave_by exits at vs) s (Return NoExpr) ∙ return_then functions (leave_by exits at vs) s)
 
-  pub return_with_built : {a b c d : Builder} {x : Expr} {exits : Exits} {i j l : ℕ} → Pushes a b n.Return l → Builds kinds parameters b c i (Evaluate x l) → Pushes c d (n.Effect e.Spend i) j → Builds kinds parameters a d j (Execute (Simple (Return (AnExpr x))) exits)
+  pub return_with_built : {a b c d : Builder} {x : Expr} {exits : Exits} {i j l : ℕ} → Pushes a b n.Return l → Builds kinds parameters b c i (Evaluate x l) → Pushes c d (n.Spend i) j → Builds kinds parameters a d j (Execute (Simple (Return (AnExpr x))) exits)
   return_with_built {x = x} {exits = exits} p q r =
       let o = placed p tt in
       stepped (simply (Return (AnExpr x)) exits) (λ functions at vs. eval functions x >>= λ w. ret w) (extends o.extends q.extends) r q.below
@@ -184,13 +184,13 @@ module _ {kinds : ProgramKinds} {parameters : List FormalParameter} where
             ∙ sym (part_then y.functions (place_in y m k vs) simple s);
       }
 
-  pub return_part_built : {a b : Builder} {j k : ℕ} → Stands k a → Pushes a b (n.Effect e.Spend k) j → Builds kinds parameters a b j (ExecutePart (ASimple (Return NoExpr)) k)
+  pub return_part_built : {a b : Builder} {j k : ℕ} → Stands k a → Pushes a b (n.Spend k) j → Builds kinds parameters a b j (ExecutePart (ASimple (Return NoExpr)) k)
   return_part_built {k = k} h r =
       stepped (ExecutePart (ASimple (Return NoExpr)) k) (λ functions at vs. at k vs) same r h.below
       (λ y g m vs s i. refl)
       (λ functions at vs s. part_then functions (at k vs) (Return NoExpr) s ∙ return_then functions (λ _. at k vs) s)
 
-  pub return_with_part_built : {a b c d : Builder} {x : Expr} {i j k l : ℕ} → Stands k a → Pushes a b (n.Effect (e.Drop 1) k) l → Builds kinds parameters b c i (Evaluate x l) → Pushes c d (n.Effect e.Spend i) j
+  pub return_with_part_built : {a b c d : Builder} {x : Expr} {i j k l : ℕ} → Stands k a → Pushes a b (n.Effect (e.Drop 1) k) l → Builds kinds parameters b c i (Evaluate x l) → Pushes c d (n.Spend i) j
       → Builds kinds parameters a d j (ExecutePart (ASimple (Return (AnExpr x))) k)
   return_with_part_built {x = x} {k = k} h p q r =
       let o = placed p h.below in

@@ -11,7 +11,6 @@ use Rattle.awk_semantics.specs.definitions.State.{State, Run, ◌>>=◌, ret}
 use Rattle.awk_semantics.specs.definitions.Semantics.{choose, eval, pass_on, exec, exec_all}
 use Rattle.awk_semantics.proofs.KeepsForms.{keeps_exec}
 use Rattle.awk_resolve.specs.declared.node.Node.TheVariants as n
-use Rattle.awk_resolve.specs.declared.node.EffectNode.TheVariants as e
 use Rattle.awk_resolve.specs.declared.builder.Builder.{Builder}
 use Rattle.awk_resolve.specs.declared.builder.Exits.{Exits}
 use Rattle.awk_resolve.specs.definitions.Nodes.{Cont}
@@ -46,7 +45,7 @@ module _ {kinds : ProgramKinds} {parameters : List FormalParameter} where
     is = λ y g m vs s i. q.is y g m vs s i ∙ sym (block_then y.functions (leave_by exits (place_in y m) vs) s all);
   }
 
-  pub if_built : {a b c d : Builder} {x : Expr} {y : Statement} {exits : Exits} {i j here : ℕ} → Stands exits.next a → Builds kinds parameters a b here (Execute y exits) → Builds kinds parameters b c i (Decide x here exits.next) → Pushes c d (n.Effect e.Spend i) j
+  pub if_built : {a b c d : Builder} {x : Expr} {y : Statement} {exits : Exits} {i j here : ℕ} → Stands exits.next a → Builds kinds parameters a b here (Execute y exits) → Builds kinds parameters b c i (Decide x here exits.next) → Pushes c d (n.Spend i) j
       → Builds kinds parameters a d j (Execute (If x y) exits)
   if_built {x = x} {y = y} {exits = exits} h p t r =
       stepped (Execute (If x y) exits)
@@ -57,7 +56,7 @@ module _ {kinds : ProgramKinds} {parameters : List FormalParameter} where
       (λ functions at vs s. if_then functions (leave_by exits at vs) s x y)
 
   pub if_else_built : {a b c d f : Builder} {x : Expr} {y z : Statement} {exits : Exits} {i j here other : ℕ} → Builds kinds parameters a b here (Execute y exits) → Builds kinds parameters b c other (Execute z exits) → Builds kinds parameters c d i (Decide x here other)
-      → Pushes d f (n.Effect e.Spend i) j → Builds kinds parameters a f j (Execute (IfElse x y z) exits)
+      → Pushes d f (n.Spend i) j → Builds kinds parameters a f j (Execute (IfElse x y z) exits)
   if_else_built {x = x} {y = y} {z = z} {exits = exits} p q t r =
       stepped (Execute (IfElse x y z) exits)
       (λ functions at vs. eval functions x >>= λ w. choose (truth_of w) (exec functions y >>= leave_by exits at vs) (exec functions z >>= leave_by exits at vs))

@@ -26,11 +26,13 @@ use Rattle.awk_storage.specs.declared.position.Place.TheVariants as place
 use Rattle.awk_storage.specs.definitions.Positions.{read_local, read_slot, number_at, read_element_of, read_variable, read_at}
 use Rattle.awk_storage.specs.definitions.Forms.{substitute_at}
 use Rattle.awk_resolve.specs.declared.builder.Builder.{Builder}
+use Rattle.awk_resolve.specs.declared.node.Exchange.{Exchange}
 use Rattle.awk_resolve.specs.declared.node.ValueNode.TheVariants as v
 use Rattle.awk_resolve.specs.declared.node.Node.TheVariants as n
-use Rattle.awk_resolve.specs.definitions.Nodes.{ere_at, first, second, operands, pattern_operands, target_operands, substitute_by}
+use Rattle.awk_resolve.specs.definitions.Nodes.{Tables, ere_at, first, second, operands, pattern_operands, target_operands, substitute_by, substitute_in}
 use Rattle.awk_resolve.specs.support.Builds.{Grows, Pushes, Extends, IsIn, Program, Evaluate, EvaluateOperand, EvaluateUnlessEre, IsAt, FindsVariable, FindsPlace, Builds, Stands}
-use Rattle.awk_resolve.specs.support.Operands.{FindsPattern, PushesEre, exchange_node, substitution}
+use Rattle.awk_resolve.specs.support.Exchanges.{FindsExchangeBy, FindsAnExchange}
+use Rattle.awk_resolve.specs.support.Operands.{FindsPattern, substitution}
 use Rattle.awk_resolve.proofs.Calculus.{assoc_at, later_same, later_in, first_same, given}
 use Rattle.awk_resolve.proofs.Building.{grows, extends, same, still}
 use Rattle.awk_resolve.proofs.Positions.{at_variable, at_field, exchanged_in}
@@ -197,6 +199,15 @@ name_then : {B : Type 0} (functions : Functions) (x : List ℕ) (f : Target → 
 unfolding place_of
 name_then functions x f s = given (AName x) f s
 
+-- by the text of an ERE
+abbrev substitute_by_text : (names : List (List ℕ)) (all : Bool) (text : List ℕ) (replacement : Value) → Option Variable → Run Value
+substitute_by_text names all text w None = record_text >>= λ old. substitute_at names all text (str_of w) place.Field (value.Number (pos 0)) old
+substitute_by_text names all text w (Some x) = read_variable names x >>= λ old. substitute_at names all text (str_of w) (place.Variable x) value.Nothing old
+
+told_by_text : (tables : Tables) (all : Bool) (i : ℕ) (w : Value) (variable : Option Variable) (s : State) → substitute_in tables all i w variable s ≡ substitute_by_text tables.names all (ere_at tables i) w variable s
+told_by_text tables all i w None s = refl
+told_by_text tables all i w (Some x) s = refl
+
 string_exchanged : (functions : Functions) (all : Bool) (text replacement : List ℕ) (es : Exprs) (s : State)
     → (take_arguments functions (AsPlace ∷ []) [] es >>= λ as'. exchange all (OfEre text ∷ (OfValue (value.Text replacement) ∷ as'))) s ≡ eval functions (BuiltIn (substitution all) (Cons (Ere text) (Cons (String replacement) es))) s
 string_exchanged functions all text replacement es s =
@@ -205,28 +216,48 @@ string_exchanged functions all text replacement es s =
     ∙ string_then functions replacement (λ u. take_arguments functions (AsPlace ∷ []) [] es >>= λ as'. exchange all (OfEre text ∷ (OfValue u ∷ as'))) s)
     ∙ exchanges functions all (Cons (Ere text) (Cons (String replacement) es)) s
 
-module _ {kinds : ProgramKinds} {parameters : List FormalParameter} {a c : Builder} {i next : ℕ} (all : Bool) (text replacement : List ℕ) (h : Stands next a) where
-  pub record_exchanged_in : PushesEre a c (λ k. exchange_node all k replacement None) text i next → Builds kinds parameters a c i (Evaluate (BuiltIn (substitution all) (Cons (Ere text) (Cons (String replacement) Nil))) next)
-  record_exchanged_in q =
-      let g = ere_added q.adds in
-      let t = node (still g h) q.pushes in
-      evaluates (takes_behind g t) (λ vs. refl) (BuiltIn (substitution all) (Cons (Ere text) (Cons (String replacement) Nil))) (λ p l m vs s z.
-      ap (λ (x : List ℕ). (record_text >>= λ old. substitute_at p.tables.names all x replacement place.Field (value.Number (pos 0)) old) s) (ere_there q.adds p (grows t.extends.grows l))
-      ∙ exchanged_record p all (OfEre text) (value.Text replacement) m s z
-      ∙ sym (none_left p.functions (AsPlace ∷ []) (λ as'. exchange all (OfEre text ∷ (OfValue (value.Text replacement) ∷ as'))) s)
-      ∙ string_exchanged p.functions all text replacement Nil s)
+exchange_is : {kinds : ProgramKinds} {b c : Builder} {built : Exchange} {variable : Option Variable} (all : Bool) (text replacement : List ℕ) → FindsExchangeBy b c all text replacement variable built → (p : Program kinds) → Grows c p.all → (s : State)
+    → substitute_in p.tables built.all built.ere built.replacement built.variable s ≡ substitute_by_text p.tables.names all text (value.Text replacement) variable s
+exchange_is {variable = variable} all text replacement q p g s =
+    ap (λ (y : Exchange). substitute_in p.tables y.all y.ere y.replacement y.variable s) q.is
+    ∙ told_by_text p.tables all q.number (value.Text replacement) variable s
+    ∙ ap (λ (l : List ℕ). substitute_by_text p.tables.names all l (value.Text replacement) variable s) (ere_there q.adds p g)
 
-  pub variable_exchanged_in : {b : Builder} {x : Variable} {name : List ℕ} → FindsVariable kinds parameters a b x name → PushesEre b c (λ k. exchange_node all k replacement (Some x)) text i next
-      → Builds kinds parameters a c i (Evaluate (BuiltIn (substitution all) (Cons (Ere text) (Cons (String replacement) (Cons (Name name) Nil)))) next)
-  variable_exchanged_in {x = x} {name = name} found q =
-      let g = ere_added q.adds in
-      let t = node (still g (still found.extends h)) q.pushes in
-      evaluates (takes_behind (extends found.extends g) t) (λ vs. refl) (BuiltIn (substitution all) (Cons (Ere text) (Cons (String replacement) (Cons (Name name) Nil)))) (λ p l m vs s z.
-      let at : IsAt p parameters (AName name) (place.Variable x) value.Nothing = at_variable (grows g.grows (grows t.extends.grows l)) found.is in
-      ap (λ (y : List ℕ). (read_variable p.tables.names x >>= λ old. substitute_at p.tables.names all y replacement (place.Variable x) value.Nothing old) s) (ere_there q.adds p (grows t.extends.grows l))
-      ∙ later_in _ _ s m (keeps_read_variable p.tables.names x) z (λ old u z'. exchanged_place p all (OfEre text) (value.Text replacement) (AName name) (place.Variable x) value.Nothing old at m u z')
-      ∙ first_same (read_variable p.tables.names x) (read_place (AName name)) _ s (sym (at.reads m s z))
-      ∙ sym (place_taken p.functions [] (Name name) Nil (λ as'. exchange all (OfEre text ∷ (OfValue (value.Text replacement) ∷ as'))) s
-      ∙ name_then p.functions name (λ o. read_place o >>= λ old. take_arguments p.functions [] [] Nil >>= λ as'. exchange all (OfEre text ∷ (OfValue (value.Text replacement) ∷ (OfPlace o old ∷ as')))) s
-      ∙ later_same (read_place (AName name)) _ _ s (λ old u. none_left p.functions [] (λ as'. exchange all (OfEre text ∷ (OfValue (value.Text replacement) ∷ (OfPlace (AName name) old ∷ as')))) u))
-      ∙ string_exchanged p.functions all text replacement (Cons (Name name) Nil) s)
+module _ {kinds : ProgramKinds} {parameters : List FormalParameter} {a c : Builder} {built : Exchange} (all : Bool) (text replacement : List ℕ) where
+  pub record_exchange_found : FindsExchangeBy a c all text replacement None built → FindsAnExchange kinds parameters a c built (BuiltIn (substitution all) (Cons (Ere text) (Cons (String replacement) Nil)))
+  record_exchange_found q = record {
+    extends = ere_added q.adds;
+    is = record {
+      is = λ p g m s z.
+          exchange_is all text replacement q p g s
+          ∙ exchanged_record p all (OfEre text) (value.Text replacement) m s z
+          ∙ sym (none_left p.functions (AsPlace ∷ []) (λ as'. exchange all (OfEre text ∷ (OfValue (value.Text replacement) ∷ as'))) s)
+          ∙ string_exchanged p.functions all text replacement Nil s;
+    };
+  }
+
+  pub variable_exchange_found : {b : Builder} {x : Variable} {name : List ℕ} → FindsVariable kinds parameters a b x name → FindsExchangeBy b c all text replacement (Some x) built
+      → FindsAnExchange kinds parameters a c built (BuiltIn (substitution all) (Cons (Ere text) (Cons (String replacement) (Cons (Name name) Nil))))
+  variable_exchange_found {x = x} {name = name} found q =
+      let added = ere_added q.adds in
+      record {
+        extends = extends found.extends added;
+        is = record {
+          is = λ p g m s z.
+              let at : IsAt p parameters (AName name) (place.Variable x) value.Nothing = at_variable (grows added.grows g) found.is in
+              exchange_is all text replacement q p g s
+              ∙ later_in _ _ s m (keeps_read_variable p.tables.names x) z (λ old u z'. exchanged_place p all (OfEre text) (value.Text replacement) (AName name) (place.Variable x) value.Nothing old at m u z')
+              ∙ first_same (read_variable p.tables.names x) (read_place (AName name)) _ s (sym (at.reads m s z))
+              ∙ sym (place_taken p.functions [] (Name name) Nil (λ as'. exchange all (OfEre text ∷ (OfValue (value.Text replacement) ∷ as'))) s
+              ∙ name_then p.functions name (λ o. read_place o >>= λ old. take_arguments p.functions [] [] Nil >>= λ as'. exchange all (OfEre text ∷ (OfValue (value.Text replacement) ∷ (OfPlace o old ∷ as')))) s
+              ∙ later_same (read_place (AName name)) _ _ s (λ old u. none_left p.functions [] (λ as'. exchange all (OfEre text ∷ (OfValue (value.Text replacement) ∷ (OfPlace (AName name) old ∷ as')))) u))
+              ∙ string_exchanged p.functions all text replacement (Cons (Name name) Nil) s;
+        };
+      }
+
+-- and its value is put on the stack
+pub exchange_lowered : {kinds : ProgramKinds} {parameters : List FormalParameter} {a b c : Builder} {i next : ℕ} {x : Exchange} {e : Expr} → Stands next a → FindsAnExchange kinds parameters a b x e → Pushes b c (n.Value (v.SubstituteIn x) next) i
+    → Builds kinds parameters a c i (Evaluate e next)
+exchange_lowered {e = e} h f q =
+    let t = node (still f.extends h) q in
+    evaluates (takes_behind f.extends t) (λ vs. refl) e (λ p g m vs s l. f.is.is p (grows t.extends.grows g) m s l)

@@ -14,7 +14,6 @@ use Rattle.awk_storage.specs.declared.position.Array.{Array}
 use Rattle.awk_storage.specs.definitions.Forms.{keys_of_array}
 use Rattle.awk_storage.specs.definitions.Positions.{put_variable}
 use Rattle.awk_resolve.specs.declared.node.Node.TheVariants as n
-use Rattle.awk_resolve.specs.declared.node.EffectNode.TheVariants as e
 use Rattle.awk_resolve.specs.declared.builder.Builder.{Builder}
 use Rattle.awk_resolve.specs.declared.builder.Exits.{Exits}
 use Rattle.awk_resolve.specs.definitions.Nodes.{walk_values, made}
@@ -70,7 +69,7 @@ module _ {kinds : ProgramKinds} {parameters : List FormalParameter} {p : Program
 module _ {kinds : ProgramKinds} {parameters : List FormalParameter} where
   pub for_in_built : {a b c d f g h k l o : Builder} {x array : List ℕ} {y : Statement} {exits : Exits} {variable : Variable} {position : Array} {number next leave body take begin j : ℕ} → Stands exits.next a → FindsVariable kinds parameters a b variable x → IsArrayOf kinds parameters position array
       → Opens b c number → Pushes c d (n.NextKey number exits.next) next → Pushes d f (n.LeaveWalk exits.next) leave → Builds kinds parameters f g body (Execute y (record { next = next; breaks = leave; continues = next }))
-      → Pushes g h (n.TakeKey variable body) take → Closes h k number take → Pushes k l (n.Walk position next) begin → Pushes l o (n.Effect e.Spend begin) j → Builds kinds parameters a o j (Execute (ForIn x array y) exits)
+      → Pushes g h (n.TakeKey variable body) take → Closes h k number take → Pushes k l (n.Walk position next) begin → Pushes l o (n.Spend begin) j → Builds kinds parameters a o j (Execute (ForIn x array y) exits)
   for_in_built {x = x} {array = array} {y = y} {exits = exits} {position = position} {number = number} {next = next} {body = body} {take = take} here found is open_at next_at leave_at q take_at shut_at begin_at z =
       let is_open = opened open_at in
       let exit_in_c = longer exits.next is_open.grows (longer exits.next found.extends.grows here.below) in

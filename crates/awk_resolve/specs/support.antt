@@ -9,3 +9,4 @@ pub mod Calls
 pub mod Printed
 pub mod Holding
 pub mod Targets
+pub mod Exchanges

@@ -4,7 +4,8 @@ ghost use Rattle.std.specs.Prelude.{◌≡◌, IfOk, IfSome};
 ghost use Rattle.awk_grammar.specs.Tree as tree;
 ghost use Rattle.awk_grammar.specs.View.{expr_of, exprs_of};
 ghost use Rattle.awk_resolve.specs.support.Builds.{Stands, Evaluate};
-ghost use Rattle.awk_resolve.specs.support.Operands.{PushesEre, exchange_node, split_by, takes_one, reads_in_place, strict_node, substitution};
+ghost use Rattle.awk_resolve.specs.support.Exchanges.{FindsExchangeBy, FindsExchange};
+ghost use Rattle.awk_resolve.specs.support.Operands.{split_by, takes_one, reads_in_place, strict_node, substitution};
 ghost use Rattle.awk_resolve.specs.support.Scopes.{Builds, LowersValue};
 
 use crate::builder::{Builder, next_number};
@@ -164,44 +165,45 @@ impl Builder {
         }
     }
 
-    fn push_substitute(
+    /// What exchanges matches of an ERE with a string.
+    fn exchange_by(
         &mut self,
         all: bool,
         ere: &Bytes,
         replacement: &Bytes,
         variable: Option<Variable>,
-        next: u32,
-    ) -> Result<u32, AllocError>
-        ensures { IfOk result (λ place. PushesEre self.old self.new (λ i. exchange_node all i replacement.now variable) ere.now place next) }
+    ) -> Result<Exchange, AllocError>
+        ensures { IfOk result (λ exchange. FindsExchangeBy self.old self.new all ere.now replacement.now variable exchange) }
     {
         let number = self.ere_of(ere)?;
-        let exchange = Exchange {
+        Ok(Exchange {
             all,
             ere: number,
             replacement: Value::Text(replacement.clone()?),
             variable,
-        };
-        self.push_value(ValueNode::SubstituteIn(exchange), next)
+        })
     }
 
-    /// `sub` and `gsub` that take nothing off the stack: by an ERE, with a string, in a variable or in the record. None of any other.
-    fn lower_substitute_in(
+    /// What a `sub` or `gsub` exchanges that takes nothing off the stack: by an ERE, with a string, in a variable or in the record. None
+    /// of any other.
+    ///
+    /// # Errors
+    ///
+    /// Where memory is refused, or numbers run out.
+    pub(crate) fn exchange_of(
         &mut self,
         scope: &Scope,
         all: bool,
         list: &[Expr],
-        next: u32,
-    ) -> Result<Option<u32>, AllocError>
-        requires { Stands next self.old }
-        ensures { IfOk result (λ place. LowersValue scope.now self.old self.new place (tree.BuiltIn (substitution all) (exprs_of list.now)) next) }
+    ) -> Result<Option<Exchange>, AllocError>
+        ensures { IfOk result (λ exchange. FindsExchange scope.now self.old self.new exchange all (exprs_of list.now)) }
     {
         match list {
             [pattern, replacement] => {
                 let Some((ere, text)) = ere_and_string(pattern, replacement) else {
                     return Ok(None);
                 };
-                let place = self.push_substitute(all, ere, text, None, next)?;
-                Ok(Some(place))
+                Ok(Some(self.exchange_by(all, ere, text, None)?))
             }
             [pattern, replacement, variable] => {
                 let Some((ere, text)) = ere_and_string(pattern, replacement) else {
@@ -211,8 +213,7 @@ impl Builder {
                     return Ok(None);
                 };
                 let variable = Some(self.variable_of(scope, x.as_slice())?);
-                let place = self.push_substitute(all, ere, text, variable, next)?;
-                Ok(Some(place))
+                Ok(Some(self.exchange_by(all, ere, text, variable)?))
             }
             _ => Ok(None),
         }
@@ -230,8 +231,8 @@ impl Builder {
         requires { Stands next self.old }
         ensures { IfOk result (λ place. Builds scope.now self.old self.new place (Evaluate (tree.BuiltIn (substitution all) (exprs_of list.now)) next)) }
     {
-        if let Some(place) = self.lower_substitute_in(scope, all, list, next)? {
-            return Ok(place);
+        if let Some(exchange) = self.exchange_of(scope, all, list)? {
+            return self.push_value(ValueNode::SubstituteIn(exchange), next);
         }
         match list {
             [pattern, replacement] => {

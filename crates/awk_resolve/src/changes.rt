@@ -1,18 +1,19 @@
 // Statements that change a place, whose value is of no use.
 
 ghost use Rattle.std.specs.Prelude.{◌≡◌, IfOk};
+ghost use Rattle.awk_grammar.specs.Tree as tree;
 ghost use Rattle.awk_grammar.specs.Tree.{Assign, PreIncrement, PostIncrement};
-ghost use Rattle.awk_grammar.specs.View.{expr_of};
+ghost use Rattle.awk_grammar.specs.View.{expr_of, exprs_of};
 ghost use Rattle.awk_resolve.specs.support.Builds.{ExitsStand};
-ghost use Rattle.awk_resolve.specs.support.Operands.{assigned_by_one};
+ghost use Rattle.awk_resolve.specs.support.Operands.{assigned_by_one, substitution};
 ghost use Rattle.awk_resolve.specs.support.Scopes.{LowersChange};
 
 use crate::appends::appended;
 use crate::builder::{Builder, Exits};
-use crate::node::{Node, Operand};
+use crate::node::{EffectNode, Node, Operand};
 use crate::scope::Scope;
 use awk_grammar::tree::Expr;
-use awk_lex::token::{AssignmentOperator, IncrementOperator};
+use awk_lex::token::{AssignmentOperator, BuiltIn, IncrementOperator};
 use awk_value::Value;
 use std::alloc::AllocError;
 
@@ -136,6 +137,24 @@ impl Builder {
         Ok(Some(step))
     }
 
+    /// Matches that are exchanged where they stand; none of any other `sub` or `gsub`.
+    fn lower_exchange(
+        &mut self,
+        scope: &Scope,
+        all: bool,
+        list: &[Expr],
+        exits: Exits,
+    ) -> Result<Option<u32>, AllocError>
+        requires { ExitsStand exits self.old }
+        ensures { IfOk result (λ place. LowersChange scope.now self.old self.new place (tree.BuiltIn (substitution all) (exprs_of list.now)) exits) }
+    {
+        let Some(exchange) = self.exchange_of(scope, all, list)? else {
+            return Ok(None);
+        };
+        let exchanges = self.push(Node::Effect(EffectNode::Exchange(exchange), exits.next))?;
+        Ok(Some(exchanges))
+    }
+
     /// An expression whose value is of no use, where it changes a place; none of any other one, and of some appends.
     ///
     /// # Errors
@@ -154,6 +173,8 @@ impl Builder {
             Expr::Assign(o, place, right) => self.lower_update(scope, *o, place, right, exits),
             Expr::PreIncrement(o, place) => self.lower_pre_raise(scope, *o, place, exits),
             Expr::PostIncrement(o, place) => self.lower_post_raise(scope, *o, place, exits),
+            Expr::BuiltIn(BuiltIn::Sub, list) => self.lower_exchange(scope, false, list, exits),
+            Expr::BuiltIn(BuiltIn::Gsub, list) => self.lower_exchange(scope, true, list, exits),
             _ => Ok(None),
         }
     }

@@ -11,7 +11,7 @@ ghost use Rattle.awk_resolve.specs.support.Holding.{IsOver, IsAction, AddsPlace,
 ghost use Rattle.awk_resolve.specs.support.Scopes.{Builds};
 
 use crate::builder::{Builder, Exits, next_number};
-use crate::node::{EffectNode, Node};
+use crate::node::{EffectNode, Node, Tested};
 use crate::scope::Scope;
 use awk_grammar::tree::{Expr, Item, Pattern, PrintForm, Statement};
 use awk_kinds::Kinds;
@@ -103,7 +103,7 @@ impl Builder {
         let through = self.lower_test(&scope, to, ends, here)?;
         let begins = self.push(Node::Effect(EffectNode::SetInside(number, true), through))?;
         let outside = self.lower_test(&scope, from, begins, other)?;
-        self.push(Node::TestInside(number, through, outside))
+        self.push(Node::Test(Tested::Inside(number), through, outside))
     }
 
     /// A pattern, by the number of its item: at one place it goes on where the record is selected, and at the other one where it isn't.

@@ -76,6 +76,19 @@ pub enum OutsideCall {
     Flush,
 }
 
+/// What is asked by a test that is neither a comparison nor a match.
+#[derive(Drop)]
+pub enum Tested {
+    /// Whether the topmost value is true, which is taken off.
+    Top,
+    /// Whether a range is inside, by the number of its item.
+    Inside(u32),
+    /// Whether the number that a target had is true, which is raised or lowered by 1.
+    Raised(IncrementOperator, Target),
+    /// Whether an array has an element at a key.
+    Element(Array, Key),
+}
+
 /// As which statement a node ends all calls.
 #[derive(Clone, Copy)]
 pub enum Ending {
@@ -140,9 +153,10 @@ pub enum ValueNode {
 }
 
 /// What takes values off the stack and puts none on it.
-#[derive(Clone, Copy)]
+#[derive(Drop)]
 pub enum EffectNode {
-    Spend,
+    /// Spends a step, and exchanges matches; how many that are is of no use.
+    Exchange(Exchange),
     Drop(u32),
     Delete(Array),
     /// Deletes all elements of an array.
@@ -161,16 +175,16 @@ pub enum EffectNode {
 pub enum Node {
     Value(ValueNode, u32),
     Effect(EffectNode, u32),
-    /// Goes on at the first place where the topmost value is true, and else at the second.
-    Test(u32, u32),
+    /// Spends a step.
+    Spend(u32),
+    /// Goes on at the first place where a test holds, and else at the second.
+    Test(Tested, u32, u32),
     /// The same of what an operator makes of the topmost value and an operand.
     CompareWith(BinaryOperator, Operand, u32, u32),
     /// The same of what an operator makes of two operands.
     Compare(BinaryOperator, Operand, Operand, u32, u32),
     /// The same of whether an operand has a match of an ERE of the program.
     Match(Operand, u32, u32, u32),
-    /// The same of whether a range is inside, by the number of its item.
-    TestInside(u32, u32, u32),
     /// Assigns the topmost value to a place, whose operand lies below it; both are taken off.
     Assign(AssignmentOperator, Place, u32),
     /// Raises or lowers the number of a place by 1, and takes the operand of the place off.
@@ -183,7 +197,7 @@ pub enum Node {
     AppendTo(Variable, u32, u32),
     /// Spends a step, and assigns a target its text with those of operands behind it.
     AppendOperands(Target, Vec<Operand>, u32),
-    /// Prints operands, of which there is one at least, as a line to standard output.
+    /// Spends a step, and prints operands, of which there is one at least, as a line to standard output.
     Print(Vec<Operand>, u32),
     /// A turn of a loop, whose body's place is known by the loop's number.
     Again(u32),

@@ -3,8 +3,7 @@
 ghost use Rattle.std.specs.Prelude.{◌≡◌, IfOk};
 ghost use Rattle.awk_grammar.specs.View.{expr_of, exprs_of, optional_expr_of, print_list_of, output_of, simple_of, optional_simple_of};
 ghost use Rattle.awk_grammar.specs.Tree.{Expression, Print, Standard, Delete, DeleteAll, NextFile, Exit, Return, Simple};
-ghost use Rattle.awk_resolve.specs.declared.node.Node.TheVariants.{Effect};
-ghost use Rattle.awk_resolve.specs.declared.node.EffectNode.TheVariants.{Spend};
+ghost use Rattle.awk_resolve.specs.declared.node.Node.TheVariants.{Spend};
 ghost use Rattle.awk_resolve.specs.support.Builds.{Pushes, Stands, ExitsStand, Execute, ExecutePart};
 ghost use Rattle.awk_resolve.specs.support.Printed.{listed};
 ghost use Rattle.awk_resolve.specs.support.Scopes.{Builds, LowersPrint};
@@ -29,9 +28,9 @@ fn listed(list: &PrintList) -> &[Expr]
 impl Builder {
     /// Spends a step, and goes on.
     pub(crate) fn step(&mut self, next: u32) -> Result<u32, AllocError>
-        ensures { IfOk result (λ place. Pushes self.old self.new (Effect Spend next) place) }
+        ensures { IfOk result (λ place. Pushes self.old self.new (Spend next) place) }
     {
-        self.push(Node::Effect(EffectNode::Spend, next))
+        self.push(Node::Spend(next))
     }
 
     /// An expression whose value is of no use.
@@ -69,8 +68,7 @@ impl Builder {
             return Ok(None);
         };
         let print = self.push(Node::Print(operands, exits.next))?;
-        let step = self.step(print)?;
-        Ok(Some(step))
+        Ok(Some(print))
     }
 
     /// A print to standard output.

@@ -48,6 +48,11 @@ pub record PutsContains (a : Array) (key : Value) (m m' : Machine) : Type 0 wher
   pub read : Changes (contains_at a (str_of key)) m.runtime m.runtime (Ok found)
   pub pushed : Pushed (truth_value found) m m'
 
+-- whether there is one is answered
+pub record AnswersContains (a : Array) (key : Value) (m : Machine) (answer : Option Bool) (m' : Machine) : Type 0 where
+  pub found : IfSome answer (λ found. Changes (contains_at a (str_of key)) m.runtime m.runtime (Ok found))
+  pub same : m' ≡ m
+
 -- it gets a value, or what an operator makes of its own and of this one
 pub record GivesElement (o : Option Operator) (a : Array) (key w : Value) (m m' : Machine) : Type 0 where
   pub gives : Gives (assign_by_at m.runtime.names.scalars o (place.Element a) key w) m.runtime (Ok tt) m'.runtime

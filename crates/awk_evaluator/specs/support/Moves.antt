@@ -156,10 +156,10 @@ abbrev pub toward : Option Bool → (here other : ℕ) → Move
 toward (Some holds) here other = move.On (if holds then here else other)
 toward None here other = move.Halted
 
--- nodes that append texts, print operands, walk over keys or end all calls
+-- nodes that append texts, raise places, walk over keys or end all calls
 abbrev pub IsRare : Node → Type 0
 IsRare (n.AppendTo x count k) = Unit {0}
-IsRare (n.Print list k) = Unit {0}
+IsRare (n.Raise o p k) = Unit {0}
 IsRare (n.Walk a k) = Unit {0}
 IsRare (n.NextKey i exit) = Unit {0}
 IsRare (n.TakeKey x k) = Unit {0}
@@ -199,13 +199,13 @@ pub record Computes (x : ValueNode) (m : Machine) (r : Result Value Halt) (m' : 
 pub record Performs (is_logged : Type 0) (x : EffectNode) (m : Machine) (k : WorldState) (r : Result (Unit {0}) Halt) (m' : Machine) (k' : WorldState) : Type 0 where
   pub operands : OnOk r (m'.operands ≡ record m.operands { values = drop (dropped x) m.operands.values })
   pub calls : OnOk r (m'.runtime.frames.callers ≡ m.runtime.frames.callers)
-  pub simulates : (functions : Functions) → Simulates is_logged m.runtime k m'.runtime k' r (effect_of functions x m.operands.values)
+  pub simulates : (tables : Tables) (functions : Functions) → Simulates is_logged m.runtime k m'.runtime k' r (effect_of (tables_in m.runtime.names tables) functions x m.operands.values)
 
 -- the same without the world
 pub record Acts (x : EffectNode) (m : Machine) (r : Result (Unit {0}) Halt) (m' : Machine) : Type 0 where
   pub operands : OnOk r (m'.operands ≡ record m.operands { values = drop (dropped x) m.operands.values })
   pub calls : OnOk r (m'.runtime.frames.callers ≡ m.runtime.frames.callers)
-  pub changes : (functions : Functions) → Changes (effect_of functions x m.operands.values) m.runtime m'.runtime r
+  pub changes : (tables : Tables) (functions : Functions) → Changes (effect_of (tables_in m.runtime.names tables) functions x m.operands.values) m.runtime m'.runtime r
 
 -- a value is returned to the newest entry, or is the last one
 abbrev pub GivesBackBy : Value → Machine → Move → Machine → Type 0

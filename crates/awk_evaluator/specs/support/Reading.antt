@@ -16,12 +16,14 @@ use Rattle.awk_storage.specs.Positions.{assign_by_at}
 use Rattle.awk_resolve.specs.declared.node.Key.{Key}
 use Rattle.awk_resolve.specs.declared.node.Operand.{Operand}
 use Rattle.awk_resolve.specs.declared.node.Target.{Target}
+use Rattle.awk_resolve.specs.declared.node.Tested.{Tested}
 use Rattle.awk_resolve.specs.declared.node.ValueNode.{ValueNode}
-use Rattle.awk_resolve.specs.Nodes.{operand_value, key_value, assign_variable, assign_target, raise_target, update, increment, taken, append_to, operand_values, print_operands}
+use Rattle.awk_resolve.specs.Nodes.{Tables, operand_value, key_value, assign_variable, assign_target, raise_target, update, increment, taken, append_to, operand_values, print_operands, print_by_step, asked, asked_operands}
 use Rattle.awk_streams.specs.WorldState.{WorldState}
 use Rattle.awk_runtime.specs.Simulation.{Simulates, Changes}
 use Rattle.awk_evaluator.specs.declared.machine.Machine.{Machine}
 use Rattle.awk_evaluator.specs.declared.machine.Move.{Move}
+use Rattle.awk_evaluator.specs.support.Rest.{tables_in}
 use Rattle.awk_evaluator.specs.support.Moves.{Computes, told, toward}
 
 -- what takes no value off the stack, and puts none on it
@@ -60,6 +62,12 @@ pub record Decides (x : ValueNode) (here other : ℕ) (m : Machine) (to : Move) 
   pub holds : Option Bool
   pub leads : to ≡ toward holds here other
   pub compares : Compares x m (told holds m') m'
+
+-- whether what a test asks holds; what it takes is taken off the stack
+pub record Asks (x : Tested) (m : Machine) (r : Result Bool Halt) (m' : Machine) : Type 0 where
+  pub operands : OnOk r (m'.operands ≡ record m.operands { values = drop (asked_operands x) m.operands.values })
+  pub calls : OnOk r (m'.runtime.frames.callers ≡ m.runtime.frames.callers)
+  pub changes : (tables : Tables) → Changes (asked (tables_in m.runtime.names tables) x m.operands.values) m.runtime m'.runtime r
 
 -- a step is spent, and a target gets an operand, or its number and 1, or less 1
 
@@ -113,3 +121,9 @@ pub record PrintsOperands (is_logged : Type 0) (list : List Operand) (m : Machin
   pub operands : OnOk r (m'.operands ≡ m.operands)
   pub calls : OnOk r (m'.runtime.frames.callers ≡ m.runtime.frames.callers)
   pub simulates : Simulates is_logged m.runtime k m'.runtime k' r (print_operands m.runtime.names.scalars list)
+
+-- the same, where a step is spent before
+pub record SpendsAndPrints (is_logged : Type 0) (list : List Operand) (m : Machine) (k : WorldState) (r : Result (Unit {0}) Halt) (m' : Machine) (k' : WorldState) : Type 0 where
+  pub operands : OnOk r (m'.operands ≡ m.operands)
+  pub calls : OnOk r (m'.runtime.frames.callers ≡ m.runtime.frames.callers)
+  pub simulates : Simulates is_logged m.runtime k m'.runtime k' r (print_by_step m.runtime.names.scalars list)

@@ -43,6 +43,8 @@ use Rattle.awk_resolve.specs.declared.node.SplitBy.{SplitBy}
 use Rattle.awk_resolve.specs.declared.node.SplitBy.TheVariants as by
 use Rattle.awk_resolve.specs.declared.node.OutsideCall.{OutsideCall}
 use Rattle.awk_resolve.specs.declared.node.OutsideCall.TheVariants as outside
+use Rattle.awk_resolve.specs.declared.node.Tested.{Tested}
+use Rattle.awk_resolve.specs.declared.node.Tested.TheVariants as tested
 use Rattle.awk_resolve.specs.declared.node.Ending.{Ending}
 use Rattle.awk_resolve.specs.declared.node.Ending.TheVariants as ending
 use Rattle.awk_resolve.specs.declared.node.ValueNode.{ValueNode}
@@ -145,6 +147,10 @@ module _ (names : List (List ℕ)) where
   -- operands as a line to standard output
   abbrev pub print_operands : List Operand → Run (Unit {0})
   print_operands list = operand_values list >>= λ ws. print_line 0 ws
+
+  -- the same, where a step is spent
+  abbrev pub print_by_step : List Operand → Run (Unit {0})
+  print_by_step list = spend >>= λ _. print_operands list
 
   -- a target gets an operand; an element's key is read before it
   abbrev pub assign_target : AssignmentOperator → Target → Operand → Run Value
@@ -256,6 +262,18 @@ module _ (tables : Tables) where
   value_of functions (v.Outside call) vs = outside_value call vs
   value_of functions (v.Call f fs) vs = call_at functions (function_at tables f) fs.items (taken (values_among fs.items) vs)
 
+  -- what a test asks that is neither a comparison nor a match
+  abbrev pub asked : Tested → List Value → Run Bool
+  asked tested.Top vs = ret (truth_of (first vs))
+  asked (tested.Inside i) vs = is_inside i
+  asked (tested.Raised o t) vs = raise_target tables.names o t >>= λ w. ret (truth_of w)
+  asked (tested.Element a k) vs = key_value tables.names k >>= λ w. contains_at a (str_of w)
+
+-- how many values a test takes off the stack
+abbrev pub asked_operands : Tested → ℕ
+asked_operands tested.Top = 1
+asked_operands x = 0
+
 -- how many values a substitution takes
 abbrev pub pattern_operands : Option ℕ → ℕ
 pattern_operands (Some i) = 0
@@ -324,18 +342,19 @@ way_operands None = 0
 way_operands (Some way) = 1
 
 -- what a node does that gives no value
-abbrev pub effect_of : Functions → EffectNode → List Value → Run (Unit {0})
-effect_of functions e.Spend vs = spend
-effect_of functions (e.Drop k) vs = ret tt
-effect_of functions (e.Delete a) vs = delete_at a (str_of (first vs))
-effect_of functions (e.Clear a) vs = clear_at a
-effect_of functions e.EndInput vs = close_main
-effect_of functions (e.Print f k way) vs = target_by way vs >>= λ n. print_by functions f n (taken k (drop (way_operands way) vs))
-effect_of functions e.SetStatus vs = set_status (first vs)
-effect_of functions (e.SetInside i b) vs = set_inside i b
+module _ (tables : Tables) where
+  abbrev pub effect_of : Functions → EffectNode → List Value → Run (Unit {0})
+  effect_of functions (e.Exchange x) vs = spend >>= λ _. substitute_in tables x.all x.ere x.replacement x.variable >>= λ _. ret tt
+  effect_of functions (e.Drop k) vs = ret tt
+  effect_of functions (e.Delete a) vs = delete_at a (str_of (first vs))
+  effect_of functions (e.Clear a) vs = clear_at a
+  effect_of functions e.EndInput vs = close_main
+  effect_of functions (e.Print f k way) vs = target_by way vs >>= λ n. print_by functions f n (taken k (drop (way_operands way) vs))
+  effect_of functions e.SetStatus vs = set_status (first vs)
+  effect_of functions (e.SetInside i b) vs = set_inside i b
 
 abbrev pub dropped : EffectNode → ℕ
-dropped e.Spend = 0
+dropped (e.Exchange x) = 0
 dropped (e.Drop k) = k
 dropped (e.Delete a) = 1
 dropped (e.Clear a) = 0
@@ -365,19 +384,19 @@ halt_by ending.Exit = halt.Exit
 module _ (tables : Tables) (functions : Functions) (again : ℕ → Cont) where
   abbrev pub made : (ℕ → Cont) → Node → Cont
   made at (n.Value x k) = λ vs. value_of tables functions x vs >>= λ w. at k (w ∷ drop (popped x) vs)
-  made at (n.Effect x k) = λ vs. effect_of functions x vs >>= λ _. at k (drop (dropped x) vs)
-  made at (n.Test here other) = λ vs. choose (truth_of (first vs)) (at here (drop 1 vs)) (at other (drop 1 vs))
+  made at (n.Effect x k) = λ vs. effect_of tables functions x vs >>= λ _. at k (drop (dropped x) vs)
+  made at (n.Spend k) = λ vs. spend >>= λ _. at k vs
+  made at (n.Test x here other) = λ vs. asked tables x vs >>= λ holds. choose holds (at here (drop (asked_operands x) vs)) (at other (drop (asked_operands x) vs))
   made at (n.CompareWith o b here other) = λ vs. operated_with tables.names o (first vs) b >>= λ x. choose (truth_of x) (at here (drop 1 vs)) (at other (drop 1 vs))
   made at (n.Compare o a b here other) = λ vs. operated_on tables.names o a b >>= λ x. choose (truth_of x) (at here vs) (at other vs)
   made at (n.Match a i here other) = λ vs. value_of tables functions (v.Matches a i) vs >>= λ x. choose (truth_of x) (at here vs) (at other vs)
-  made at (n.TestInside i here other) = λ vs. is_inside i >>= λ inside. choose inside (at here vs) (at other vs)
   made at (n.Assign o p k) = λ vs. value_of tables functions (v.Assign o p) vs >>= λ _. at k (drop (popped (v.Assign o p)) vs)
   made at (n.Raise o p k) = λ vs. value_of tables functions (v.PostIncrement o p) vs >>= λ _. at k (drop (popped (v.PostIncrement o p)) vs)
   made at (n.Update o t a k) = λ vs. update tables.names o t a >>= λ _. at k vs
   made at (n.Increment o t k) = λ vs. increment tables.names o t >>= λ _. at k vs
   made at (n.AppendTo x count k) = λ vs. append_to tables.names x (taken count vs) >>= λ _. at k (drop count vs)
   made at (n.AppendOperands t list k) = λ vs. append_by_step tables.names t list.items >>= λ _. at k vs
-  made at (n.Print list k) = λ vs. print_operands tables.names list.items >>= λ _. at k vs
+  made at (n.Print list k) = λ vs. print_by_step tables.names list.items >>= λ _. at k vs
   made at (n.Again i) = again i
   made at (n.Walk a k) = λ vs. keys_of_array a >>= λ keys. at k (walk_values keys ++ vs)
   made at (n.NextKey i exit) = λ vs. next_key_by (keys_left (first vs)) (again i vs) (at exit (drop 1 vs))
@@ -404,11 +423,11 @@ module _ (tables : Tables) (functions : Functions) (heads : List ℕ) (nodes : L
 abbrev pub AreBelow : ℕ → Node → Type 0
 AreBelow at (n.Value x k) = k < at
 AreBelow at (n.Effect x k) = k < at
-AreBelow at (n.Test here other) = (here < at) × (other < at)
+AreBelow at (n.Spend k) = k < at
+AreBelow at (n.Test x here other) = (here < at) × (other < at)
 AreBelow at (n.CompareWith o b here other) = (here < at) × (other < at)
 AreBelow at (n.Compare o a b here other) = (here < at) × (other < at)
 AreBelow at (n.Match a i here other) = (here < at) × (other < at)
-AreBelow at (n.TestInside i here other) = (here < at) × (other < at)
 AreBelow at (n.Assign o p k) = k < at
 AreBelow at (n.Raise o p k) = k < at
 AreBelow at (n.Update o t a k) = k < at

@@ -14,7 +14,6 @@ use Rattle.awk_grammar.specs.declared.tree.UnaryOperator.TheVariants as unary
 use Rattle.awk_grammar.specs.declared.tree.BinaryOperator.{BinaryOperator}
 use Rattle.awk_grammar.specs.declared.tree.BinaryOperator.TheVariants.{Infix}
 use Rattle.awk_grammar.specs.Tree.{Expr, Ere, OptionalExpr, NoExpr, AnExpr}
-use Rattle.awk_storage.specs.declared.position.Variable.{Variable}
 use Rattle.awk_resolve.specs.declared.node.OutsideCall.TheVariants as outside
 use Rattle.awk_resolve.specs.declared.node.Operand.TheVariants as operand
 use Rattle.awk_resolve.specs.declared.node.Source.{Source}
@@ -105,10 +104,6 @@ abbrev pub strict_node : BuiltIn → ℕ → ValueNode
 strict_node built_in.Close k = v.Outside outside.Close
 strict_node built_in.System k = v.Outside outside.System
 strict_node f k = v.Apply f k
-
--- what a string is exchanged by, with nothing on the stack
-abbrev pub exchange_node : (all : Bool) → ℕ → (replacement : List ℕ) → Option Variable → ValueNode
-exchange_node all i text x = v.SubstituteIn (record { all = all; ere = i; replacement = value.Text text; variable = x })
 
 abbrev pub substitution : Bool → BuiltIn
 substitution true = built_in.Gsub

@@ -2,14 +2,14 @@ use Rattle.awk_runtime.specs.declared.runtime.Runtime.{Runtime}
 use Rattle.std.proofs.Common.{refl, sym, ap, ◌∙◌}
 use Rattle.awk_runtime.proofs.Composition.{ready_behind}
 use Rattle.awk_evaluator.proofs.Moving.{key_exit, walk_left, ending_stops, zero_test, no_zero_test}
-use Rattle.awk_evaluator.proofs.NodeMoves.{append_moves, print_moves, walk_moves, key_moves, turn_moves, ready_appended, ready_put}
+use Rattle.awk_evaluator.proofs.NodeMoves.{append_moves, raise_moves, walk_moves, key_moves, turn_moves, ready_appended, ready_done, ready_put}
 use Rattle.awk_evaluator.proofs.machine.Machine.make_rare_move.Goals as goal
 
 pub returns-in-AppendTo : goal.returns-in-AppendTo
 returns-in-AppendTo g c = rw (c.onward.ensures, c.in-AppendTo.is) (record { ready = ready_appended c.append_texts.result c.append_texts.ensures c.requires.ready; moves = append_moves c.append_texts.result c.append_texts.ensures })
 
-pub returns-in-Print : goal.returns-in-Print
-returns-in-Print g c = rw (c.onward-in-Print.ensures, c.in-Print.is) (record { ready = c.print_operands.ensures.ready; moves = print_moves c.print_operands.result (rw c.deref.ensures.value at c.print_operands.ensures.prints) })
+pub returns-in-Raise : goal.returns-in-Raise
+returns-in-Raise g c = rw (c.onward-in-Raise.ensures, c.in-Raise.is) (record { ready = ready_done c.raise.result c.raise.ensures c.requires.ready; moves = raise_moves c.raise.result c.raise.ensures })
 
 pub returns-in-Walk : goal.returns-in-Walk
 returns-in-Walk g c = rw (c.onward-in-Walk.ensures, c.in-Walk.is) (record { ready = ready_put c.begin_walk.result c.begin_walk.ensures c.requires.ready; moves = walk_moves c.begin_walk.result c.begin_walk.ensures })

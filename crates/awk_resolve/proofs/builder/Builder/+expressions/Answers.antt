@@ -14,7 +14,7 @@ use Rattle.awk_resolve.specs.support.Calls.{arrays_of, is_array_at, roles_from}
 use Rattle.awk_resolve.specs.support.Scopes.{Builds}
 use Rattle.awk_resolve.proofs.Building.{ok_map, same, still, behind, stands, arrays_same, extends}
 use Rattle.awk_resolve.proofs.ExpressionForms.{number_lowered, strict_lowered, string_lowered, ere_lowered, length_lowered, element_lowered, field_lowered, group_lowered, unary_lowered, membership_lowered, list_membership_lowered, assign_lowered, pre_increment_lowered, post_increment_lowered}
-use Rattle.awk_resolve.proofs.ElementForms.{element_read, operand_contained, target_post_incremented}
+use Rattle.awk_resolve.proofs.ElementForms.{element_read, operand_contained, target_post_incremented, target_raise_tested, operand_contained_tested}
 use Rattle.awk_resolve.proofs.InPlaceForms.{nothing_before, operand_lowered, match_tested, strict, strictly_by, operated_with_lowered, operated_on_lowered, compared_with_lowered, compared_lowered}
 use Rattle.awk_resolve.proofs.AppendForms.{append_lowered, whole_left, behind_concatenation, behind_other}
 use Rattle.awk_resolve.proofs.PartForms.{part_lowered, whole_part_lowered, joined_lowered}
@@ -25,7 +25,7 @@ use Rattle.awk_resolve.proofs.OperandForms.{name_operand, element_operand, field
 use Rattle.awk_resolve.proofs.CallForms.{call_fits, call_lowered, no_arguments, array_argument, value_argument}
 use Rattle.awk_resolve.proofs.BuiltInForms.{IsPlain, strict_applied, record_length_lowered, count_lowered, length_of_lowered, flush_all_lowered, flush_lowered, match_lowered, fields_split, split_lowered}
 use Rattle.awk_resolve.proofs.OperandCalls.{operands_applied, behind_applied, length_of_operand}
-use Rattle.awk_resolve.proofs.SubstituteForms.{substitute_lowered, substitute_place_lowered}
+use Rattle.awk_resolve.proofs.SubstituteForms.{substitute_lowered, substitute_place_lowered, exchange_lowered}
 use Rattle.awk_resolve.proofs.TreeForms.{getline_is, piped_is, same_arrays}
 use Rattle.awk_resolve.proofs.GetlineForms.{nothing_stays, something_lowered, no_operand_stays, operand_there, getline_lowered, piped_getline_lowered}
 use Rattle.awk_resolve.proofs.builder.Builder.+expressions.Goals as goal
@@ -322,8 +322,22 @@ lower_test-returns-in-Binary-Infix-NotMatches-default-default t c =
     let is : expr_of c.args.e.now ≡ tree.Binary (Infix o.NotMatches) (expr_of x.a.value) (expr_of x.b.value) = search (rules, the_lemmas) in
     rw is (ok_map _ (λ i q. mismatch_tested q) (rw (c.deref-in-Binary-Infix-NotMatches-default-default.ensures, c.deref-in-Binary-Infix-NotMatches-default-default-2.ensures) at c.lower_match_test-in-Binary-Infix-NotMatches-default-default.ensures))
 
-pub lower_test-returns-in_ok-test-in_default : goal.lower_test-returns-in_ok-test-in_default
-lower_test-returns-in_ok-test-in_default t c = ok_map _ (λ i q. test_lowered c.requires.here c.requires.other c.in_ok-test-in_default.ensures q) c.lower.ensures
+pub lower_any_test-returns : goal.lower_any_test-returns
+lower_any_test-returns t c = ok_map _ (λ i q. test_lowered c.requires.here c.requires.other c.in_ok-test.ensures q) c.lower.ensures
+
+pub lower_raise_test-returns-in_default : goal.lower_raise_test-returns-in_default
+lower_raise_test-returns-in_default t c = ok_map _ (λ i q. behind (rw c.in_default.is at c.in_ok-target.ensures) q) c.lower_any_test.ensures
+
+pub lower_raise_test-returns : goal.lower_raise_test-returns
+lower_raise_test-returns t c = rw c.requires.raises (ok_map _ (λ i q. target_raise_tested c.requires.here c.requires.other c.args.o (rw c.in-Some.is at c.in_ok-target.ensures) q) c.push.ensures)
+
+pub lower_element_test-returns-in_default : goal.lower_element_test-returns-in_default
+lower_element_test-returns-in_default t c = let none = rw c.in_default.is at c.in_ok-key.ensures in rw (sym none) c.lower_any_test.ensures
+
+pub lower_element_test-returns : goal.lower_element_test-returns
+lower_element_test-returns t c =
+    rw c.requires.contains
+    (ok_map _ (λ i q. operand_contained_tested c.requires.here c.requires.other (rw c.as_slice.ensures at c.in_ok-array.ensures) (rw c.in-Some.is at c.in_ok-key.ensures) q) c.push.ensures)
 
 pub lower_match_test-returns : goal.lower_match_test-returns
 lower_match_test-returns t c = rw (ap expr_of c.in-Ere.is) (ok_map _ (λ i q. match_tested c.requires.here c.requires.other (rw c.in-Some.is at c.in_ok-operand.ensures) c.in_ok-number.ensures q) c.push.ensures)
@@ -444,15 +458,18 @@ lower_split-returns-in_ok-right-in-len3 t c =
     rw (three_exprs c.args.list.now c.text-item-then-list-lt4.result c.array-item-then-list-lt4.result c.separator-item.result c.in-len3.len_at_least c.in-len3.len_below c.text-item-then-list-lt4.is c.array-item-then-list-lt4.is c.separator-item.is)
     (ok_map _ (λ i q. split_lowered (rw c.name_in-in-len3.ensures at c.in_ok-array-in-len3.ensures) c.in_ok-pattern_of-in-len3.field-0 c.requires c.in_ok-pattern_of-in-len3.ensures (rw c.split_by-by.ensures at c.in_ok-split-in-len3.ensures) c.in_ok-right-in-len3.ensures q) c.lower-in-len3.ensures)
 
+pub lower_substitute-returns-in-Some : goal.lower_substitute-returns-in-Some
+lower_substitute-returns-in-Some t c = ok_map _ (λ i q. exchange_lowered c.requires (rw c.in-Some.is at c.in_ok-exchange.ensures) q) c.push_value.ensures
+
 pub lower_substitute-returns-in_ok-right-in-len2 : goal.lower_substitute-returns-in_ok-right-in-len2
 lower_substitute-returns-in_ok-right-in-len2 t c =
     rw (two_exprs c.args.list.now c.pattern-item.result c.replacement-item.result c.in-len2.len_at_least c.in-len2.len_below c.pattern-item.is c.replacement-item.is)
-    (ok_map _ (λ i q. behind (rw c.in_default.is at c.in_ok-place.ensures) (substitute_lowered c.args.all c.in_ok-number-in-len2.number (still (rw c.in_default.is at c.in_ok-place.ensures) c.requires) c.in_ok-number-in-len2.ensures c.in_ok-substitute-in-len2.ensures c.in_ok-right-in-len2.ensures q)) c.lower_unless_ere.ensures)
+    (ok_map _ (λ i q. behind (rw c.in_default.is at c.in_ok-exchange.ensures) (substitute_lowered c.args.all c.in_ok-number-in-len2.number (still (rw c.in_default.is at c.in_ok-exchange.ensures) c.requires) c.in_ok-number-in-len2.ensures c.in_ok-substitute-in-len2.ensures c.in_ok-right-in-len2.ensures q)) c.lower_unless_ere.ensures)
 
 pub lower_substitute-returns-in_ok-right-in-len3 : goal.lower_substitute-returns-in_ok-right-in-len3
 lower_substitute-returns-in_ok-right-in-len3 t c =
     rw (three_exprs c.args.list.now c.pattern-item-then-list-lt4.result c.replacement-item-then-list-lt4.result c.place-item.result c.in-len3.len_at_least c.in-len3.len_below c.pattern-item-then-list-lt4.is c.replacement-item-then-list-lt4.is c.place-item.is)
-    (ok_map _ (λ i q. behind (rw c.in_default.is at c.in_ok-place.ensures) (substitute_place_lowered c.args.all c.in_ok-number-in-len3.number (still (rw c.in_default.is at c.in_ok-place.ensures) c.requires) c.in_ok-target-in-len3.ensures c.in_ok-number-in-len3.ensures c.in_ok-substitute-in-len3.ensures c.in_ok-old-in-len3.ensures c.in_ok-operand-in-len3.ensures c.in_ok-right-in-len3.ensures q)) c.lower_unless_ere-in-len3.ensures)
+    (ok_map _ (λ i q. behind (rw c.in_default.is at c.in_ok-exchange.ensures) (substitute_place_lowered c.args.all c.in_ok-number-in-len3.number (still (rw c.in_default.is at c.in_ok-exchange.ensures) c.requires) c.in_ok-target-in-len3.ensures c.in_ok-number-in-len3.ensures c.in_ok-substitute-in-len3.ensures c.in_ok-old-in-len3.ensures c.in_ok-operand-in-len3.ensures c.in_ok-right-in-len3.ensures q)) c.lower_unless_ere-in-len3.ensures)
 
 pub lower_in_place-returns-then-not-reads_in_place : goal.lower_in_place-returns-then-not-reads_in_place
 lower_in_place-returns-then-not-reads_in_place t c = same

@@ -53,7 +53,16 @@ abbrev pub decreases-lower_optional : goal.decreases-lower_optional
 decreases-lower_optional l = 5 * goal.size-lower_optional l + 1
 
 abbrev pub decreases-lower_test : goal.decreases-lower_test
-decreases-lower_test l = 5 * goal.size-lower_test l + 1
+decreases-lower_test l = 5 * goal.size-lower_test l + 3
+
+abbrev pub decreases-lower_raise_test : goal.decreases-lower_raise_test
+decreases-lower_raise_test l = 5 * size-Expr l.e.now + 2
+
+abbrev pub decreases-lower_element_test : goal.decreases-lower_element_test
+decreases-lower_element_test l = 5 * size-Expr l.e.now + 2
+
+abbrev pub decreases-lower_any_test : goal.decreases-lower_any_test
+decreases-lower_any_test l = 5 * goal.size-lower_any_test l + 1
 
 abbrev pub decreases-lower_append : goal.decreases-lower_append
 decreases-lower_append l = 5 * goal.size-lower_append l + 2
@@ -110,19 +119,19 @@ abbrev pub decreases-lower_joined : goal.decreases-lower_joined
 decreases-lower_joined l = 5 * max (size-Expr l.a.now) (size-Expr l.b.now) + 2
 
 abbrev pub decreases-lower_binary : goal.decreases-lower_binary
-decreases-lower_binary l = 5 * max (size-Expr l.a.now) (size-Expr l.b.now) + 3
+decreases-lower_binary l = 5 * max (size-Expr l.a.now) (size-Expr l.b.now) + 4
 
 abbrev pub decreases-lower_comparison : goal.decreases-lower_comparison
-decreases-lower_comparison l = 5 * max (size-Expr l.a.now) (size-Expr l.b.now) + 4
+decreases-lower_comparison l = 5 * max (size-Expr l.a.now) (size-Expr l.b.now) + 5
 
 abbrev pub decreases-lower_match_test : goal.decreases-lower_match_test
-decreases-lower_match_test l = 5 * max (size-Expr l.a.now) (size-Expr l.b.now) + 4
+decreases-lower_match_test l = 5 * max (size-Expr l.a.now) (size-Expr l.b.now) + 5
 
 abbrev pub decreases-lower_assign : goal.decreases-lower_assign
 decreases-lower_assign l = 5 * max (size-Expr l.place.now) (size-Expr l.e.now) + 3
 
 abbrev pub decreases-lower_conditional : goal.decreases-lower_conditional
-decreases-lower_conditional l = 5 * max (size-Expr l.c.now) (max (size-Expr l.a.now) (size-Expr l.b.now)) + 2
+decreases-lower_conditional l = 5 * max (size-Expr l.c.now) (max (size-Expr l.a.now) (size-Expr l.b.now)) + 4
 
 abbrev pub decreases-lower_getline : goal.decreases-lower_getline
 decreases-lower_getline l = 5 * max (optional_size l.place.now) (optional_size l.file.now) + 3

@@ -12,4 +12,4 @@ returns c =
     let long : 0 < length list = search rules in
     let count : count_of (listed (print_list_of c.args.list.now)) ≡ length list = ap count_of (sym c.listed-list.ensures) ∙ count_exprs list in
     let some : 0 < count_of (listed (print_list_of c.args.list.now)) = omega (arith, long, count) in
-    rw c.in-Print.is (operands_print_built c.requires.next some (rw c.listed-list.ensures at (rw c.in-Some.is at c.in_ok-operands.ensures)) c.in_ok-print.ensures c.in_ok-step.ensures)
+    rw c.in-Print.is (operands_print_built c.requires.next some (rw c.listed-list.ensures at (rw c.in-Some.is at c.in_ok-operands.ensures)) c.in_ok-print.ensures)
