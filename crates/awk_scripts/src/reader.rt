@@ -23,6 +23,8 @@ enum End {
     Script,
     Parenthesis,
     Backtick,
+    /// A backtick behind a backslash, between backticks.
+    InnerBacktick,
 }
 
 /// A list of commands within a script, or within a word of an outer one.
@@ -57,6 +59,12 @@ struct Reader<'a> {
     endless: usize,
     /// Whether a backslash stands before, which takes this byte's meaning.
     is_escaped: bool,
+    /// How many lists between backticks it stands in, one in the other.
+    backticks: usize,
+    /// Whether the outermost of those stands between double quotes.
+    is_doubled: bool,
+    /// Whether a backslash before this byte was taken away, as between backticks.
+    is_stripped: bool,
     /// The first byte that isn't gone over yet.
     behind: usize,
     found: Vec<Embedded>,
@@ -97,6 +105,11 @@ fn end_of_document(script: &[u8], from: usize, document: &HereDocument) -> Optio
     None
 }
 
+/// Whether a list stands between backticks.
+fn is_backtick(end: End) -> bool {
+    matches!(end, End::Backtick | End::InnerBacktick)
+}
+
 /// Whether a byte ends the delimiter of a here-document.
 fn ends_delimiter(byte: u8) -> bool {
     matches!(
@@ -117,13 +130,16 @@ impl<'a> Reader<'a> {
     /// Ends the command that is read.
     fn end_command(&mut self, at: usize) -> Result<(), AllocError> {
         self.end_word(at)?;
-        self.here.command.next = Next::Any;
+        self.here.command.next = Next::Name;
         self.here.command.is_led = false;
         Ok(())
     }
 
     /// Goes into commands whose output is put into a word.
     fn enter(&mut self, end: End, computes: bool) -> Result<(), AllocError> {
+        if is_backtick(end) {
+            self.backticks = self.backticks.saturating_add(1);
+        }
         let inner = Commands::new(self.alloc, end, computes);
         let outer = std::mem::replace(&mut self.here, inner);
         self.outer.push(outer)?;
@@ -133,6 +149,9 @@ impl<'a> Reader<'a> {
     /// Comes back from them.
     fn leave(&mut self, at: usize) -> Result<(), AllocError> {
         self.end_command(at)?;
+        if is_backtick(self.here.end) {
+            self.backticks = self.backticks.saturating_sub(1);
+        }
         if let Some(outer) = self.outer.pop() {
             self.here = outer;
         }
@@ -150,12 +169,34 @@ impl<'a> Reader<'a> {
         Ok(())
     }
 
+    /// What a backtick here closes.
+    fn closed_by_backtick(&self) -> End {
+        if self.is_stripped {
+            End::InnerBacktick
+        } else {
+            End::Backtick
+        }
+    }
+
     fn backtick(&mut self, at: usize) -> Result<(), AllocError> {
-        if self.here.end == End::Backtick {
+        let end = self.closed_by_backtick();
+        if self.here.end == end {
             return self.leave(at);
         }
+        if self.backticks == 0 {
+            self.is_doubled = self.here.quote == Quote::Double;
+        }
         self.here.command.word.is_open = true;
-        self.enter(End::Backtick, false)
+        self.enter(end, false)
+    }
+
+    /// Whether the backslash at a place is taken away before what stands between backticks is read.
+    fn strips(&self, at: usize) -> bool {
+        match self.script.get(at.saturating_add(1)) {
+            Some(b'$' | b'`' | b'\\') => self.backticks > 0,
+            Some(b'"') => self.backticks > 0 && self.is_doubled,
+            _ => false,
+        }
     }
 
     /// A byte between double quotes.
@@ -193,7 +234,8 @@ impl<'a> Reader<'a> {
         if byte == b'\n' {
             return Ok(());
         }
-        self.here.command.word.begin(at, byte);
+        // (a quotation mark quotes nothing here)
+        self.here.command.word.begin(at, b'\\');
         self.here.command.word.push(at, byte)
     }
 
@@ -273,7 +315,7 @@ impl<'a> Reader<'a> {
             b')' => return self.close(at),
             b'<' | b'>' => return self.lead(at, byte),
             b'\\' => self.is_escaped = true,
-            b'`' if self.here.end == End::Backtick => return self.leave(at),
+            b'`' if self.here.end == self.closed_by_backtick() => return self.leave(at),
             _ => return self.begin_or_go_on(at, byte),
         }
         Ok(())
@@ -296,6 +338,21 @@ impl<'a> Reader<'a> {
     fn step(&mut self, at: usize, byte: u8) -> Result<(), AllocError> {
         if at < self.behind {
             return Ok(());
+        }
+        if byte == b'\\' && !self.is_stripped && self.strips(at) {
+            self.is_stripped = true;
+            return Ok(());
+        }
+        self.read(at, byte)?;
+        self.is_stripped = false;
+        Ok(())
+    }
+
+    /// A byte as the shell reads it where it stands.
+    fn read(&mut self, at: usize, byte: u8) -> Result<(), AllocError> {
+        // (between backticks in backticks more of them are taken away)
+        if byte == b'\\' && self.backticks > 1 {
+            self.here.command.word.is_open = true;
         }
         if self.is_escaped {
             return self.escaped(at, byte);
@@ -323,6 +380,9 @@ fn programs_of(alloc: Global, script: &[u8]) -> Result<Vec<Embedded>, AllocError
         documents: Vec::new(alloc),
         endless: 0,
         is_escaped: false,
+        backticks: 0,
+        is_doubled: false,
+        is_stripped: false,
         behind: 0,
         found: Vec::new(alloc),
     };

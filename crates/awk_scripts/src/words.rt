@@ -21,8 +21,12 @@ pub(crate) struct Word {
 /// What the next word of a command is.
 #[derive(Clone, Copy)]
 pub(crate) enum Next {
+    /// The name of a command, perhaps behind words like `if`.
+    Name,
     /// Nothing that is known.
     Any,
+    /// A word of a command that takes words as they are, as `echo`.
+    Plain,
     /// An option of awk or its program.
     Option,
     /// The value of an option.
@@ -82,6 +86,41 @@ fn is_awk(name: &[u8]) -> bool {
     )
 }
 
+/// Whether the name of a command stands behind a word, as at the beginning.
+fn leads_to_name(word: &[u8]) -> bool {
+    matches!(
+        word,
+        b"if" | b"then" | b"else" | b"elif" | b"while" | b"until" | b"do" | b"!" | b"{"
+    )
+}
+
+/// Whether a command of this name runs none of its words.
+fn takes_words(name: &[u8]) -> bool {
+    matches!(
+        name,
+        b"echo"
+            | b"printf"
+            | b"print"
+            | b"for"
+            | b"case"
+            | b"which"
+            | b"type"
+            | b"test"
+            | b"["
+            | b"[["
+            | b"grep"
+            | b"egrep"
+            | b"fgrep"
+            | b"sed"
+            | b"cat"
+            | b"cp"
+            | b"ln"
+            | b"ls"
+            | b"mv"
+            | b"rm"
+    )
+}
+
 /// Whether a word as it stands in the script is the variable AWK.
 fn is_variable(source: &[u8]) -> bool {
     matches!(source, b"$AWK" | b"${AWK}" | b"\"$AWK\"" | b"\"${AWK}\"")
@@ -111,7 +150,7 @@ impl Command {
     pub(crate) fn new(alloc: Global) -> Command {
         Command {
             word: Word::new(alloc),
-            next: Next::Any,
+            next: Next::Name,
             is_led: false,
             given: Vec::new(alloc),
         }
@@ -181,7 +220,10 @@ impl Command {
         let next = self.next;
         self.next = Next::Any;
         match next {
-            Next::Any => {
+            Next::Plain => self.next = next,
+            Next::Name if leads_to_name(&word.text) => self.next = next,
+            Next::Name if takes_words(&word.text) => self.next = Next::Plain,
+            Next::Name | Next::Any => {
                 let source = script.get(place.start..place.end).unwrap_or(b"");
                 if is_variable(source) || (!word.is_open && is_awk(&word.text)) {
                     self.given = Vec::new(alloc);
