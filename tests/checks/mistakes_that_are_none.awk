@@ -1,6 +1,11 @@
 function factor(n) {
     return n < 2 ? 1 : n * factor(n - 1)
 }
+function last(n) {
+    done(n)
+    last(n - 1)
+}
+function done(n) { if (n < 0) exit }
 BEGIN {
     FS = ":"
     while ((getline line < "f") > 0) n++
@@ -18,3 +23,15 @@ NR == 1
     if ($2) next
     exit n
 }
+{
+    while (getline line && n++ < 10) ;
+    while (getline && $1 < 5) n++
+    while (getline line < "f" && n) n--
+    printf ("%") "d\n", n
+    printf "%s %s\n", "date" | getline, n
+    x /= 0 ? 1 : 2
+    x /= 0 || n
+    x = getline < 2 ^ 200
+    last(x)
+}
+$2 ~ "(" | getline

@@ -139,8 +139,43 @@ pub fn finding_at(
     Finding::new(alloc, Some(place_of(token)), message, advice)
 }
 
-/// Whether the operand that ends with a token is joined to nothing behind it.
-pub fn stands_alone(tokens: &[Token], at: usize) -> bool {
+/// Whether the token at a place is a `|` before which no command stands that is read.
+fn is_pipe(tokens: &[Token], at: usize) -> bool {
+    matches!(kind_behind(tokens, at, 0), Some(Kind::Bar))
+        && !matches!(
+            kind_behind(tokens, at, 1),
+            Some(Kind::Keyword(Keyword::Getline))
+        )
+}
+
+/// Whether the token at a place leads what is printed to a file or a command, if it stands in a print.
+pub fn is_target_sign(tokens: &[Token], at: usize) -> bool {
+    matches!(
+        kind_behind(tokens, at, 0),
+        Some(Kind::Append | Kind::Operator(Operator::Greater))
+    ) || is_pipe(tokens, at)
+}
+
+/// Whether the right operand of a match ends with a token.
+pub(crate) fn stands_alone(tokens: &[Token], at: usize) -> bool {
+    let looser = matches!(
+        kind_behind(tokens, at, 1),
+        Some(
+            Kind::Question
+                | Kind::Operator(Operator::And | Operator::Or)
+                | Kind::Keyword(Keyword::In)
+        )
+    );
+    looser || ends_value(tokens, at) || is_target_sign(tokens, at.saturating_add(1))
+}
+
+/// Whether a value that is printed, outside of parentheses, ends with a token.
+pub(crate) fn ends_printed(tokens: &[Token], at: usize) -> bool {
+    ends_value(tokens, at) || is_target_sign(tokens, at.saturating_add(1))
+}
+
+/// Whether a value ends with a token: a statement, an argument or brackets end behind it.
+pub fn ends_value(tokens: &[Token], at: usize) -> bool {
     match kind_behind(tokens, at, 1) {
         None => true,
         Some(kind) => matches!(
@@ -152,12 +187,7 @@ pub fn stands_alone(tokens: &[Token], at: usize) -> bool {
                 | Kind::CloseBracket
                 | Kind::CloseBrace
                 | Kind::OpenBrace
-                | Kind::Question
                 | Kind::Colon
-                | Kind::Bar
-                | Kind::Append
-                | Kind::Operator(Operator::And | Operator::Or | Operator::Greater)
-                | Kind::Keyword(Keyword::In)
         ),
     }
 }

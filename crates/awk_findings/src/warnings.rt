@@ -1,8 +1,8 @@
 // What a program that is accepted may not mean, call by call.
 
 use crate::calls::{
-    arguments, constant_of, finding_at, kind_before, kind_behind, only_token, place_in_string,
-    place_of_stretch, stands_alone, string_of, text_of,
+    arguments, constant_of, ends_printed, ends_value, finding_at, kind_before, kind_behind,
+    only_token, place_in_string, place_of_stretch, stands_alone, string_of, text_of,
 };
 use crate::finding::{Finding, joined, shown};
 use crate::formats::format_fault;
@@ -201,9 +201,6 @@ impl<'a> Warnings<'a> {
 
     /// A string that is a format.
     fn add_format(&mut self, at: usize) -> Result<(), AllocError> {
-        if !stands_alone(self.tokens, at) {
-            return Ok(());
-        }
         let Some(token) = self.tokens.get(at) else {
             return Ok(());
         };
@@ -227,9 +224,32 @@ impl<'a> Warnings<'a> {
     /// The format of `printf`, perhaps behind a parenthesis.
     fn add_printf(&mut self, at: usize) -> Result<(), AllocError> {
         let first = at.saturating_add(1);
-        match kind_behind(self.tokens, at, 1) {
-            Some(Kind::OpenParenthesis) => self.add_format(first.saturating_add(1)),
-            _ => self.add_format(first),
+        let second = first.saturating_add(1);
+        let (format, last) = match (
+            kind_behind(self.tokens, first, 0),
+            kind_behind(self.tokens, first, 2),
+        ) {
+            (Some(Kind::OpenParenthesis), Some(Kind::CloseParenthesis)) => {
+                (second, second.saturating_add(1))
+            }
+            (Some(Kind::OpenParenthesis), Some(Kind::Comma)) => (second, second),
+            (Some(Kind::OpenParenthesis), _) => return Ok(()),
+            _ => (first, first),
+        };
+        if ends_printed(self.tokens, last) {
+            self.add_format(format)
+        } else {
+            Ok(())
+        }
+    }
+
+    /// The format of `sprintf`.
+    fn add_sprintf(&mut self, at: usize) -> Result<(), AllocError> {
+        let format = at.saturating_add(2);
+        if ends_value(self.tokens, format) {
+            self.add_format(format)
+        } else {
+            Ok(())
         }
     }
 
@@ -241,7 +261,7 @@ impl<'a> Warnings<'a> {
             BuiltIn::Split => self.add_split(at),
             BuiltIn::Sub | BuiltIn::Gsub => self.add_substitution(at),
             BuiltIn::Match => self.add_match(at),
-            BuiltIn::Sprintf => self.add_format(at.saturating_add(2)),
+            BuiltIn::Sprintf => self.add_sprintf(at),
             _ => Ok(()),
         }
     }
@@ -276,7 +296,7 @@ impl<'a> Warnings<'a> {
             return Ok(());
         };
         let behind = at.saturating_add(1);
-        if !stands_alone(self.tokens, behind) {
+        if !ends_value(self.tokens, behind) {
             return Ok(());
         }
         let Some(token) = self.tokens.get(behind) else {

@@ -1,7 +1,7 @@
 // Faults that constants make.
 
 use crate::mistakes::Mistakes;
-use awk_findings::calls::{kind_before, kind_behind, stands_alone};
+use awk_findings::calls::{ends_value, kind_before, kind_behind};
 use awk_lex::token::{Kind, Operator, Token};
 use awk_value::pow;
 use std::alloc::AllocError;
@@ -37,7 +37,7 @@ impl<'a> Mistakes<'a> {
     /// `/= 0` and `%= 0`.
     pub(crate) fn add_assigned_division(&mut self, at: usize) -> Result<(), AllocError> {
         let divisor = at.saturating_add(1);
-        if number_at(self.tokens, divisor) != Some(0) || !stands_alone(self.tokens, divisor) {
+        if number_at(self.tokens, divisor) != Some(0) || !ends_value(self.tokens, divisor) {
             return Ok(());
         }
         self.add_stretch(at, divisor.saturating_add(1), BY_ZERO, b"")
@@ -67,13 +67,17 @@ impl<'a> Mistakes<'a> {
             return Ok(());
         };
         let exponent = at.saturating_add(1);
-        let is_field = matches!(kind_before(self.tokens, base, 1), Some(Kind::Dollar));
+        // (`$2 ^ 3` is a field's power, and `getline <2 ^ 3` that of what it gives)
+        let is_operand = matches!(
+            kind_before(self.tokens, base, 1),
+            Some(Kind::Dollar | Kind::Operator(Operator::Less))
+        );
         match (
             number_at(self.tokens, base),
             number_at(self.tokens, exponent),
         ) {
             (Some(value), Some(times))
-                if !is_field && !is_base(self.tokens, exponent) && pow(value, times).is_err() => {
+                if !is_operand && !is_base(self.tokens, exponent) && pow(value, times).is_err() => {
                 self.add_stretch(
                     base,
                     exponent.saturating_add(1),

@@ -237,6 +237,8 @@ fn endless_call<'a>(body: &'a [Token], function: &[u8]) -> Option<&'a Token> {
             Kind::Keyword(Keyword::Return) => returns = true,
             Kind::Semicolon | Kind::Newline if returns => return None,
             Kind::Called(name) if name.as_slice() == function => return Some(token),
+            // (another function may exit)
+            Kind::Called(_) => return None,
             kind if decides(kind) => return None,
             _ => {}
         }

@@ -2,15 +2,18 @@
 
 use crate::mistakes::Mistakes;
 use crate::statements::closing;
-use awk_findings::calls::{
-    arguments, kind_before, kind_behind, name_of, only_token, stands_alone, string_of,
-};
+use awk_findings::calls::{arguments, kind_before, kind_behind, name_of, only_token, string_of};
 use awk_lex::token::{BuiltIn, Keyword, Kind, Operator, Token};
 use std::alloc::AllocError;
 
-/// How many tokens the operand behind a `!` has, where it is a name, a number, a string or a field of one.
+/// How many tokens the operand behind a `!` has, where it is a name, an element, a number, a string or a field.
 fn operand_length(tokens: &[Token], not: usize) -> Option<usize> {
-    match (kind_behind(tokens, not, 1)?, kind_behind(tokens, not, 2)) {
+    let first = not.checked_add(1)?;
+    let second = first.checked_add(1)?;
+    match (kind_behind(tokens, first, 0)?, kind_behind(tokens, second, 0)) {
+        (Kind::Name(_), Some(Kind::OpenBracket)) | (Kind::Dollar, Some(Kind::OpenParenthesis)) => {
+            closing(tokens, second)?.checked_sub(not)
+        }
         (Kind::Name(_) | Kind::Number(_) | Kind::String(_), _) => Some(1),
         (Kind::Dollar, Some(Kind::Name(_) | Kind::Number(_))) => Some(2),
         _ => None,
@@ -36,16 +39,46 @@ fn is_same(left: &Token, right: &Token) -> bool {
     }
 }
 
+/// The first token behind the place that a `getline` may set.
+fn behind_place(tokens: &[Token], getline: usize) -> Option<usize> {
+    let first = getline.checked_add(1)?;
+    let last = match (
+        kind_behind(tokens, first, 0)?,
+        kind_behind(tokens, first, 1),
+    ) {
+        (Kind::Name(_), Some(Kind::OpenBracket)) => closing(tokens, first.checked_add(1)?)?,
+        (Kind::Dollar, Some(Kind::OpenParenthesis)) => closing(tokens, first.checked_add(1)?)?,
+        (Kind::Dollar, Some(_)) => first.checked_add(1)?,
+        (Kind::Name(_), _) => first,
+        _ => return Some(first),
+    };
+    last.checked_add(1)
+}
+
+/// The file's sign, `<`, of a `getline` that reads a file.
+fn file_sign(tokens: &[Token], getline: usize) -> Option<usize> {
+    let sign = behind_place(tokens, getline)?;
+    match kind_behind(tokens, sign, 0)? {
+        Kind::Operator(Operator::Less) => Some(sign),
+        _ => None,
+    }
+}
+
 /// Whether the condition between two brackets takes what `getline` gives of a file for the truth, and by which token.
 fn untested_getline(tokens: &[Token], open: usize, close: usize) -> Option<usize> {
     let mut found = None;
-    let mut reads_file = false;
+    let mut sign = None;
     for at in open..close {
         match kind_behind(tokens, at, 0)? {
-            Kind::Keyword(Keyword::Getline) => found = Some(at),
-            Kind::Operator(Operator::Less) if found.is_some() && !reads_file => reads_file = true,
-            Kind::Operator(
-                Operator::Less
+            Kind::Keyword(Keyword::Getline) => {
+                found = Some(at);
+                sign = file_sign(tokens, at);
+            }
+            Kind::Operator(Operator::Less) if sign == Some(at) => {}
+            Kind::Not
+            | Kind::Operator(
+                Operator::And
+                | Operator::Less
                 | Operator::LessEqual
                 | Operator::Equal
                 | Operator::NotEqual
@@ -55,7 +88,8 @@ fn untested_getline(tokens: &[Token], open: usize, close: usize) -> Option<usize
             _ => {}
         }
     }
-    if reads_file { found } else { None }
+    let _ = sign?;
+    found
 }
 
 impl<'a> Mistakes<'a> {
@@ -194,7 +228,7 @@ impl<'a> Mistakes<'a> {
         match found.and_then(|place| self.tokens.get(place)) {
             Some(token) => self.add(
                 token,
-                b"getline is -1 where the file can't be read, and the loop has no end then",
+                b"getline is -1 where the file can't be read: that is true, and the loop goes on",
                 b"write while ((getline line < file) > 0)",
             ),
             None => Ok(()),

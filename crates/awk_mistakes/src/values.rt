@@ -2,9 +2,9 @@
 
 use crate::mistakes::Mistakes;
 use crate::statements::closing;
-use awk_findings::calls::{Stretch, arguments, kind_behind, string_of};
+use awk_findings::calls::{Stretch, arguments, is_target_sign, kind_behind, string_of};
 use awk_findings::format_fault;
-use awk_lex::token::{Kind, Operator, Token};
+use awk_lex::token::{Kind, Token};
 use std::alloc::AllocError;
 
 /// A list of values, the first of which is a format.
@@ -28,14 +28,6 @@ fn values_of(format: &[u8]) -> usize {
     count
 }
 
-/// Whether a token stands between what is printed and its target.
-fn is_target(kind: &Kind) -> bool {
-    matches!(
-        kind,
-        Kind::Operator(Operator::Greater) | Kind::Append | Kind::Bar
-    )
-}
-
 /// How many brackets are open behind a token.
 fn depth_behind(kind: &Kind, depth: usize) -> usize {
     match kind {
@@ -55,7 +47,7 @@ fn listed(tokens: &[Token], list: Stretch) -> Printed {
             continue;
         };
         depth = depth_behind(kind, depth);
-        let ends = is_target(kind);
+        let ends = is_target_sign(tokens, at);
         if depth == 0 && (ends || matches!(kind, Kind::Comma)) {
             if values == 0 {
                 format.to = at;
@@ -83,11 +75,7 @@ fn printed_by(tokens: &[Token], statement: Stretch) -> Printed {
         return listed(tokens, whole);
     };
     let behind = close.saturating_add(1);
-    let ends = match kind_behind(tokens, behind, 0) {
-        Some(kind) => behind >= statement.to || is_target(kind),
-        None => true,
-    };
-    if !ends {
+    if behind < statement.to && !is_target_sign(tokens, behind) {
         return listed(tokens, whole);
     }
     listed(
