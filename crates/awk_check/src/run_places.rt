@@ -8,6 +8,7 @@ use awk_findings::{Finding, Severity};
 use awk_lex::lexer::tokens;
 use awk_lex::refusal::{Refusal, RefusalCode};
 use awk_lex::token::Token;
+use awk_lex::words::is_name;
 use awk_resolve::resolve;
 use awk_run::{Fault, Outcome, fault_line};
 use awk_semantics::Halt;
@@ -167,6 +168,34 @@ fn add_variables(
     Ok(findings.push(plain_note(alloc, &message)?)?)
 }
 
+/// Whether an operand assigns to a name.
+fn assigns(operand: &[u8]) -> bool {
+    match operand.iter().position(|byte| *byte == b'=') {
+        Some(end) => is_name(operand.get(..end).unwrap_or(b"")),
+        None => false,
+    }
+}
+
+/// Adds the operand that couldn't be read or assigned, where that ended the run.
+fn add_operand(
+    alloc: Global,
+    findings: &mut Vec<Finding>,
+    ended: &Ended,
+) -> Result<(), AllocError> {
+    let operand = ended.operand.as_slice();
+    let told = match ended.outcome {
+        _ if operand.is_empty() => return Ok(()),
+        Outcome::Fault(Fault::InputNotReadable) if !assigns(operand) => {
+            b"the operand that couldn't be read is ".as_slice()
+        }
+        Outcome::Fault(Fault::AssignmentRefused) if assigns(operand) => {
+            b"the operand that couldn't be assigned is "
+        }
+        _ => return Ok(()),
+    };
+    Ok(findings.push(plain_note(alloc, &[told, operand])?)?)
+}
+
 /// What is told of a run that didn't end by itself: where that was, which calls were active, and what stood in FILENAME,
 /// FNR and NR.
 pub(crate) fn place_findings(
@@ -191,6 +220,7 @@ pub(crate) fn place_findings(
             findings.push(finding)?;
         }
     }
+    add_operand(alloc, &mut findings, ended)?;
     add_variables(alloc, &mut findings, ended)?;
     Ok(findings)
 }

@@ -3,6 +3,7 @@
 use awk_evaluator::{Machine, Watch};
 use awk_kinds::Special;
 use awk_semantics::{Halt, Outcome};
+use awk_storage::Subscript;
 use awk_value::{Bytes, ValueFault, text_of};
 use std::alloc::{AllocError, Global};
 
@@ -28,6 +29,8 @@ pub(crate) struct Ended {
     pub(crate) filename: Bytes,
     pub(crate) fnr: Bytes,
     pub(crate) nr: Bytes,
+    /// The operand that was looked at last; empty where none was.
+    pub(crate) operand: Bytes,
 }
 
 /// What is kept of a run.
@@ -51,6 +54,31 @@ pub(crate) struct Trace {
 /// The text of a value.
 fn text(alloc: Global, machine: &Machine, special: Special) -> Result<Bytes, ValueFault> {
     text_of(alloc, machine.runtime.specials.special(special))
+}
+
+/// The number of the array ARGV.
+fn argv_number(machine: &Machine) -> Option<usize> {
+    let names = &machine.runtime.names;
+    for number in 0..names.array_count() {
+        match names.array_name(number) {
+            Some(b"ARGV") => return Some(number),
+            _ => {}
+        }
+    }
+    None
+}
+
+/// The element of ARGV that was looked at last; empty where none was, and where it is absent.
+fn last_operand(alloc: Global, machine: &Machine) -> Result<Bytes, ValueFault> {
+    let last = machine.runtime.next.saturating_sub(1);
+    let found = match argv_number(machine) {
+        Some(number) if last > 0 => machine.runtime.arrays.get(number, Subscript::Number(last)),
+        _ => None,
+    };
+    match found {
+        Some(value) => text_of(alloc, value),
+        None => Ok(Bytes::from_slice(alloc, b"")?),
+    }
 }
 
 impl Trace {
@@ -116,6 +144,7 @@ impl Trace {
             filename: text(self.alloc, machine, Special::Filename)?,
             fnr: text(self.alloc, machine, Special::Fnr)?,
             nr: text(self.alloc, machine, Special::Nr)?,
+            operand: last_operand(self.alloc, machine)?,
         });
         Ok(())
     }
