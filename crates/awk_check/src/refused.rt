@@ -65,7 +65,10 @@ fn early_end(alloc: Global, found: &mut Vec<Token>) -> Result<Finding, AllocErro
     let place = found.last().map(|token| place_of(token));
     let other = last_open(alloc, found.as_slice())?;
     let expected = expected_behind(alloc, found)?;
-    let advice = b"close what is open";
+    let advice = match other {
+        Some(_) => b"close what is open".as_slice(),
+        None => b"",
+    };
     syntax_finding(
         alloc,
         place,
@@ -76,9 +79,12 @@ fn early_end(alloc: Global, found: &mut Vec<Token>) -> Result<Finding, AllocErro
     )
 }
 
-/// Whether a token ends a statement.
+/// Whether a token stands in no list.
 fn is_end(kind: &Kind) -> bool {
-    matches!(kind, Kind::CloseBrace | Kind::Newline | Kind::Semicolon)
+    matches!(
+        kind,
+        Kind::CloseBrace | Kind::OpenBrace | Kind::Newline | Kind::Semicolon
+    )
 }
 
 /// What is told of a text that is tokens and no program.

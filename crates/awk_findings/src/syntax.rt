@@ -11,8 +11,6 @@ struct Opened {
     braces: usize,
     /// How many parentheses and brackets are open in the innermost braces.
     lists: usize,
-    /// The token of the innermost open parenthesis.
-    parenthesis: Option<usize>,
     /// The token behind which the statement began.
     statement: usize,
 }
@@ -22,7 +20,6 @@ fn opened_before(tokens: &[Token], at: usize) -> Opened {
     let mut opened = Opened {
         braces: 0,
         lists: 0,
-        parenthesis: None,
         statement: 0,
     };
     for (place, token) in tokens.iter().enumerate().take(at) {
@@ -31,7 +28,6 @@ fn opened_before(tokens: &[Token], at: usize) -> Opened {
             Kind::CloseBrace => opened.braces = opened.braces.saturating_sub(1),
             Kind::OpenParenthesis | Kind::OpenBracket => {
                 opened.lists = opened.lists.saturating_add(1);
-                opened.parenthesis = Some(place);
             }
             Kind::CloseParenthesis | Kind::CloseBracket => {
                 opened.lists = opened.lists.saturating_sub(1);
@@ -47,6 +43,45 @@ fn opened_before(tokens: &[Token], at: usize) -> Opened {
         }
     }
     opened
+}
+
+/// The bracket that is open before the token at a place, the innermost.
+fn open_before(tokens: &[Token], at: usize) -> Option<usize> {
+    let mut closed = 0usize;
+    for place in (0..at).rev() {
+        match kind_behind(tokens, place, 0)? {
+            Kind::CloseParenthesis | Kind::CloseBracket => closed = closed.saturating_add(1),
+            Kind::OpenParenthesis | Kind::OpenBracket if closed == 0 => return Some(place),
+            Kind::OpenParenthesis | Kind::OpenBracket => closed = closed.saturating_sub(1),
+            _ => {}
+        }
+    }
+    None
+}
+
+/// Whether the parenthesis that closes at a place is that of an if, a while or a for.
+fn closes_head(tokens: &[Token], close: usize) -> bool {
+    match open_before(tokens, close) {
+        Some(open) => matches!(
+            kind_before(tokens, open, 1),
+            Some(Kind::Keyword(Keyword::If | Keyword::While | Keyword::For))
+        ),
+        None => false,
+    }
+}
+
+/// Whether a pattern stands between two tokens: what is compared, matched or joined by && and ||.
+fn has_pattern(tokens: &[Token], from: usize, to: usize) -> bool {
+    for token in tokens.get(from..to).unwrap_or(&[]) {
+        let tells = match &token.kind {
+            Kind::Ere(_) | Kind::Not | Kind::Operator(Operator::And | Operator::Or) => true,
+            kind => is_comparison(kind),
+        };
+        if tells {
+            return true;
+        }
+    }
+    false
 }
 
 /// Whether a print with a target stands between two tokens.
@@ -96,12 +131,15 @@ fn argument_advice(function: BuiltIn) -> &'static [u8] {
 }
 
 /// What to write where an expression ends in a list.
-fn list_advice(tokens: &[Token], opened: Opened) -> &'static [u8] {
-    let Some(open) = opened.parenthesis else {
+fn list_advice(tokens: &[Token], at: usize, kind: &Kind) -> &'static [u8] {
+    let Some(open) = open_before(tokens, at) else {
         return b"";
     };
     match kind_before(tokens, open, 1) {
         Some(Kind::BuiltIn(function)) => argument_advice(*function),
+        Some(Kind::Keyword(Keyword::For)) if matches!(kind, Kind::CloseParenthesis) => {
+            b"a for has three parts, for (i = 1; i <= n; i++), or it walks, for (k in a)"
+        }
         Some(Kind::Keyword(Keyword::For)) => {
             b"each part of a for is one expression: set the other variable before it"
         }
@@ -113,6 +151,8 @@ const NO_DECLARATIONS: &[u8] = b"variables aren't declared: leave the word befor
 
 pub(crate) const REMARKS: &[u8] = b"a remark begins with # and goes to the end of the line";
 
+const STATEMENT_MISSING: &[u8] = b"a statement is missing before the }: write ; for none";
+
 /// Whether a function is raised or lowered directly before a token.
 fn is_behind_raised(tokens: &[Token], at: usize) -> bool {
     matches!(
@@ -122,7 +162,7 @@ fn is_behind_raised(tokens: &[Token], at: usize) -> bool {
 }
 
 /// What to write instead of a token behind another one.
-fn pair_advice(before: &Kind, kind: &Kind, opened: Opened) -> &'static [u8] {
+fn pair_advice(before: &Kind, kind: &Kind) -> &'static [u8] {
     match (before, kind) {
         (Kind::Operator(Operator::Times), Kind::Operator(Operator::Times)) => {
             b"a power is x ^ y"
@@ -141,6 +181,12 @@ fn pair_advice(before: &Kind, kind: &Kind, opened: Opened) -> &'static [u8] {
         }
         (Kind::Operator(Operator::Less), Kind::Operator(Operator::Greater)) => {
             b"whether two values differ is x != y"
+        }
+        (Kind::Operator(Operator::Less), Kind::Operator(Operator::Less)) => {
+            b"bits are moved by x * 2 ^ n"
+        }
+        (Kind::Assign(AssignmentOperator::Plain), Kind::Operator(Operator::Greater)) => {
+            b"what is at least as great is x >= y"
         }
         (
             Kind::Operator(Operator::Equal | Operator::NotEqual),
@@ -167,8 +213,7 @@ fn pair_advice(before: &Kind, kind: &Kind, opened: Opened) -> &'static [u8] {
         (Kind::Newline, Kind::Operator(_) | Kind::Question | Kind::Colon) => {
             b"an operator stands at the end of the line before, behind && and || without a backslash"
         }
-        (Kind::CloseParenthesis | Kind::Keyword(Keyword::Else | Keyword::Do), Kind::CloseBrace)
-            if opened.lists == 0 => { b"a statement is missing before the }: write ; for none" }
+        (Kind::Keyword(Keyword::Else | Keyword::Do), Kind::CloseBrace) => STATEMENT_MISSING,
         _ => b"",
     }
 }
@@ -177,8 +222,12 @@ fn pair_advice(before: &Kind, kind: &Kind, opened: Opened) -> &'static [u8] {
 fn token_advice(tokens: &[Token], at: usize, kind: &Kind, opened: Opened) -> &'static [u8] {
     match kind {
         Kind::CloseBrace if opened.braces == 0 => b"no { is open here",
-        Kind::CloseBrace | Kind::Semicolon if opened.lists > 0 => {
+        Kind::CloseBrace | Kind::OpenBrace | Kind::Semicolon if opened.lists > 0 => {
             b"a ) or ] is missing before it"
+        }
+        Kind::CloseBrace if closes_head(tokens, at.saturating_sub(1)) => STATEMENT_MISSING,
+        Kind::OpenBrace if opened.braces > 0 && has_pattern(tokens, opened.statement, at) => {
+            b"in braces a condition stands behind if: if (x == 1) { .. }"
         }
         Kind::Colon if matches!(kind_behind(tokens, at, 1), Some(Kind::Assign(_))) => {
             b"an assignment is x = 1"
@@ -193,7 +242,7 @@ fn token_advice(tokens: &[Token], at: usize, kind: &Kind, opened: Opened) -> &'s
         _ if is_comparison(kind) => {
             b"comparisons don't chain: (a < b) < c; an operand of && stands before it"
         }
-        Kind::Comma | Kind::CloseParenthesis => list_advice(tokens, opened),
+        Kind::Comma | Kind::CloseParenthesis => list_advice(tokens, at, kind),
         Kind::Newline if opened.lists > 0 => match kind_before(tokens, at, 1) {
             Some(Kind::Semicolon) => {
                 b"the parts of a for stand on one line, or a backslash ends the line"
@@ -249,7 +298,7 @@ pub fn syntax_advice(tokens: &[Token], at: usize) -> &'static [u8] {
     }
     let opened = opened_before(tokens, at);
     if let Some(before) = kind_before(tokens, at, 1) {
-        let advice = pair_advice(before, kind, opened);
+        let advice = pair_advice(before, kind);
         if !advice.is_empty() {
             return advice;
         }
@@ -269,9 +318,19 @@ pub fn syntax_advice(tokens: &[Token], at: usize) -> &'static [u8] {
     if !word.is_empty() {
         return word;
     }
-    match token_advice(tokens, at, kind, opened) {
-        [] => word_advice(tokens, opened.statement, at),
-        advice => advice,
+    for advice in [
+        token_advice(tokens, at, kind, opened),
+        word_advice(tokens, opened.statement, at),
+    ] {
+        if !advice.is_empty() {
+            return advice;
+        }
+    }
+    match kind {
+        Kind::Keyword(_) if opened.braces > 0 && opened.lists == 0 => {
+            b"a ; or a newline stands between two statements, and before else"
+        }
+        _ => b"",
     }
 }
 

@@ -10,7 +10,10 @@ use std::alloc::AllocError;
 fn operand_length(tokens: &[Token], not: usize) -> Option<usize> {
     let first = not.checked_add(1)?;
     let second = first.checked_add(1)?;
-    match (kind_behind(tokens, first, 0)?, kind_behind(tokens, second, 0)) {
+    match (
+        kind_behind(tokens, first, 0)?,
+        kind_behind(tokens, second, 0),
+    ) {
         (Kind::Name(_), Some(Kind::OpenBracket)) | (Kind::Dollar, Some(Kind::OpenParenthesis)) => {
             closing(tokens, second)?.checked_sub(not)
         }

@@ -1,0 +1,1 @@
+BEGIN { if (1) print "a" else print "b" }

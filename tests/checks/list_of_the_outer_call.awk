@@ -1,0 +1,1 @@
+{ print substr(index(a, b), 1, 2, 3) }

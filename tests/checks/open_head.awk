@@ -1,0 +1,1 @@
+BEGIN { while (i < 3 { i++ } }

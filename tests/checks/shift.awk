@@ -1,0 +1,1 @@
+BEGIN { print 1 << 2 }

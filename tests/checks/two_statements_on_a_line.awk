@@ -1,0 +1,1 @@
+BEGIN { x = 5 if (x > 3) print }
