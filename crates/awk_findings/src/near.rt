@@ -1,6 +1,6 @@
 // Names that are nearly others.
 
-use crate::special::KNOWN_WORDS;
+use crate::special::{CALLED_WORDS, LEADING_WORDS, VALUE_WORDS};
 use indexmap::IndexMap;
 use std::alloc::{AllocError, Global};
 
@@ -10,8 +10,8 @@ const LONGEST: usize = 40;
 /// The fewest bytes of a name of which another letter makes no name of its own.
 const SHORTEST: usize = 4;
 
-/// Names, found by others that differ in case, or in one letter that is missing, added, another or exchanged with the
-/// one behind it.
+/// Names, found by others that differ in case or, with the case of the first letter, in one letter that is missing, added,
+/// another or exchanged with the one behind it.
 #[derive(Drop)]
 pub(crate) struct NearNames {
     alloc: Global,
@@ -29,6 +29,19 @@ fn form_of(alloc: Global, name: &[u8], left_out: Option<usize>) -> Result<Vec<u8
         }
     }
     Ok(form)
+}
+
+/// Whether a name begins with a capital letter.
+fn is_capital(name: &[u8]) -> bool {
+    match name.first() {
+        Some(byte) => byte.is_ascii_uppercase(),
+        None => false,
+    }
+}
+
+/// Whether two names begin both with a capital letter, or both with none.
+fn has_case_of(name: &[u8], other: &[u8]) -> bool {
+    is_capital(name) == is_capital(other)
 }
 
 impl NearNames {
@@ -63,12 +76,19 @@ impl NearNames {
         Ok(())
     }
 
-    /// Adds the words that are reserved, and awk's own variables.
-    pub(crate) fn add_reserved(&mut self) -> Result<(), AllocError> {
-        for word in KNOWN_WORDS {
+    /// Adds all of these.
+    pub(crate) fn add_all(&mut self, words: &[&[u8]]) -> Result<(), AllocError> {
+        for word in words {
             self.add(word)?;
         }
         Ok(())
+    }
+
+    /// Adds the words that are reserved, and awk's own variables.
+    pub(crate) fn add_reserved(&mut self) -> Result<(), AllocError> {
+        self.add_all(&VALUE_WORDS)?;
+        self.add_all(&LEADING_WORDS)?;
+        self.add_all(&CALLED_WORDS)
     }
 
     fn found(&self, form: &[u8]) -> Option<&[u8]> {
@@ -84,7 +104,8 @@ impl NearNames {
         let whole = form_of(self.alloc, name, None)?;
         let is_short = name.len() < SHORTEST;
         match self.found(&whole) {
-            Some(found) if !is_short || found.len() == name.len() => return Ok(Some(found)),
+            Some(found) if found.len() == name.len() => return Ok(Some(found)),
+            Some(found) if !is_short && has_case_of(name, found) => return Ok(Some(found)),
             _ => {}
         }
         if is_short {
@@ -92,8 +113,9 @@ impl NearNames {
         }
         for at in 0..name.len() {
             let form = form_of(self.alloc, name, Some(at))?;
-            if let Some(found) = self.found(&form) {
-                return Ok(Some(found));
+            match self.found(&form) {
+                Some(found) if has_case_of(name, found) => return Ok(Some(found)),
+                _ => {}
             }
         }
         Ok(None)

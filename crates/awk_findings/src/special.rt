@@ -108,8 +108,8 @@ pub(crate) fn word_advice(name: &[u8]) -> &'static [u8] {
     }
 }
 
-/// The words that are reserved, and awk's own variables.
-pub(crate) const KNOWN_WORDS: [&[u8]; 49] = [
+/// Words of awk that are a value by themselves: its own variables and the like.
+pub(crate) const VALUE_WORDS: [&[u8]; 18] = [
     b"ARGC",
     b"ARGV",
     b"CONVFMT",
@@ -126,6 +126,12 @@ pub(crate) const KNOWN_WORDS: [&[u8]; 49] = [
     b"RS",
     b"RSTART",
     b"SUBSEP",
+    b"getline",
+    b"length",
+];
+
+/// Words at which a statement or an item begins.
+pub(crate) const LEADING_WORDS: [&[u8]; 17] = [
     b"BEGIN",
     b"END",
     b"function",
@@ -141,22 +147,22 @@ pub(crate) const KNOWN_WORDS: [&[u8]; 49] = [
     b"exit",
     b"return",
     b"delete",
-    b"in",
-    b"getline",
     b"print",
     b"printf",
-    b"length",
-    b"substr",
-    b"index",
-    b"split",
-    b"sub",
-    b"gsub",
-    b"match",
-    b"sprintf",
-    b"tolower",
-    b"toupper",
-    b"int",
-    b"system",
-    b"close",
-    b"fflush",
 ];
+
+/// Functions, whose list stands behind them.
+pub(crate) const CALLED_WORDS: [&[u8]; 13] = [
+    b"substr", b"index", b"split", b"sub", b"gsub", b"match", b"sprintf", b"tolower", b"toupper",
+    b"int", b"system", b"close", b"fflush",
+];
+
+/// Whether a word is one of these.
+pub(crate) fn is_among(words: &[&[u8]], word: &[u8]) -> bool {
+    for known in words {
+        if *known == word {
+            return true;
+        }
+    }
+    false
+}

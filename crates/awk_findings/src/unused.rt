@@ -5,7 +5,10 @@ use crate::definitions::{Definition, definition_at, is_defining, name_at};
 use crate::finding::{Finding, joined};
 use crate::names::Names;
 use crate::near::NearNames;
-use crate::special::{foreign_variable_advice, is_foreign, is_special, word_advice};
+use crate::special::{
+    CALLED_WORDS, LEADING_WORDS, foreign_variable_advice, is_among, is_foreign, is_special,
+    word_advice,
+};
 use awk_lex::token::{BuiltIn, Keyword, Kind, Token};
 use indexmap::{IndexMap, IndexSet};
 use std::alloc::{AllocError, Global};
@@ -145,12 +148,50 @@ fn near_names(alloc: Global, names: &Names, scan: &GlobalScan) -> Result<NearNam
     Ok(near)
 }
 
-/// What to write instead of a variable that is never assigned, where that is likely.
-fn meant(alloc: Global, near: &NearNames, name: &[u8]) -> Result<Option<Vec<u8>>, AllocError> {
+/// Whether a statement or an item may begin at a token.
+fn begins(tokens: &[Token], at: usize) -> bool {
+    match kind_before(tokens, at, 1) {
+        None => true,
+        Some(kind) => matches!(
+            kind,
+            Kind::OpenBrace
+                | Kind::CloseBrace
+                | Kind::CloseParenthesis
+                | Kind::Semicolon
+                | Kind::Newline
+                | Kind::Keyword(Keyword::Else | Keyword::Do)
+        ),
+    }
+}
+
+/// Whether a word can stand at a token: a keyword begins a statement or an item, and a list stands behind a function.
+fn can_stand(names: &Names, at: usize, word: &[u8]) -> bool {
+    if is_among(&LEADING_WORDS, word) {
+        return begins(names.tokens, at);
+    }
+    let is_called = is_among(&CALLED_WORDS, word) || names.functions.contains_key(word);
+    !is_called
+        || matches!(
+            kind_behind(names.tokens, at, 1),
+            Some(Kind::OpenParenthesis)
+        )
+}
+
+/// What to write instead of a variable at a token that is never assigned, where that is likely.
+fn meant(
+    alloc: Global,
+    names: &Names,
+    near: &NearNames,
+    at: usize,
+) -> Result<Option<Vec<u8>>, AllocError> {
+    let name = name_at(names.tokens, at);
     match word_advice(name) {
         [] => match near.find(name)? {
-            Some(found) => Ok(Some(joined(alloc, &[b"did you mean ", found, b"?"])?)),
-            None => Ok(None),
+            Some(found) if can_stand(names, at, found) => Ok(Some(joined(
+                alloc,
+                &[b"did you mean ", found, b"?"],
+            )?)),
+            _ => Ok(None),
         },
         advice => Ok(Some(advice.to_vec(alloc)?)),
     }
@@ -210,7 +251,7 @@ fn never_assigned(
             continue;
         };
         let name = name_at(names.tokens, *at);
-        match meant(alloc, &near, name)? {
+        match meant(alloc, names, &near, *at)? {
             Some(advice) => {
                 found.push(finding_at(alloc, token, &[NEVER_ASSIGNED, name], &advice)?)?;
             }
