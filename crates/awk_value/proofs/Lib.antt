@@ -21,3 +21,4 @@ mod Calls
 mod Lent
 mod PaddedEnd
 mod KeptKeys
+mod KeyBlocks

@@ -2,7 +2,8 @@
 use Rattle.std.proofs.Common.{◌≡◌, ℕ, zero, suc, ◌+◌, ◌<◌, ◌≤◌, Bool, true, false, nat_eq, nat_lt, List, [], ◌∷◌, ◌++◌, map, length, get_or, refl, sym, ap, ◌∙◌, append_assoc, arith}
 use Rattle.std.specs.List.{IsAllAdjacentAnswer}
 use Rattle.std.specs.List.Sorted.{IsNonDecreasingBy}
-use Rattle.std.specs.Prelude.{Result, Ok, Err, OnOk}
+use Rattle.std.specs.Prelude.{Result, Ok, Err, OnOk, IfOk}
+use Rattle.std.specs.Global.{Vec}
 use Rattle.std.proofs.lemmas.Bool.Decides.{nat_tests}
 
 -- adjacent numbers that rise, rise
@@ -69,3 +70,7 @@ one_more f all here old xs x h e =
 pub of_all : {X Y Z : Type 0} (f : Y → Z) (g : X → Y) (all old : List Z) (xs : List X) (ys : List Y)
     → all ≡ old ++ map (λ x. f (g x)) xs → map g xs ≡ ys → all ≡ old ++ map f ys
 of_all f g all old xs ys h e = h ∙ ap (λ l. old ++ l) (sym (map-twice f g xs) ∙ ap (map f) e)
+
+pub if_ok_same : {X E : Type 0} {xs ys : List X} (r : Result (Vec X) E) → IfOk r (λ v. v.items ≡ xs) → xs ≡ ys → IfOk r (λ v. v.items ≡ ys)
+if_ok_same (Ok v) h e = h ∙ e
+if_ok_same (Err x) h e = tt

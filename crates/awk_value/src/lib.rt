@@ -17,6 +17,7 @@ mod dense;
 mod entry;
 mod fault;
 mod hashing;
+mod key_rows;
 mod long_keys;
 mod number;
 mod number_keys;

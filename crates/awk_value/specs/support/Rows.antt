@@ -1,11 +1,19 @@
 -- The entries of a map and the texts of its keys, with their stamps.
-use Rattle.std.specs.Prelude.{◌≡◌, ℕ, Bool, Some, List, map, bytes_eq}
+use Rattle.std.specs.Prelude.{◌≡◌, ◌≤◌, ℕ, Bool, Some, List, length, take, drop, map, bytes_eq}
 use Rattle.std.specs.Map.{lookup, set_value}
 use Rattle.std.specs.List.Sorted.{IsPermutation, IsNonDecreasingBy}
 use Rattle.std.specs.Global.{Vec}
 use Rattle.indexmap.specs.IndexMap.{insert_entry}
 use Rattle.awk_value.specs.declared.value.Value.{Value}
 use Rattle.awk_value.specs.declared.entry.Entry.{Entry}
+use Rattle.awk_value.specs.declared.key_rows.KeyRow.{KeyRow}
+
+-- the stamp of a row, and its text, which stands in a block of bytes
+abbrev pub row_in : List ℕ → KeyRow → ℕ × List ℕ
+row_in block row = (row.stamp, drop row.start (take row.end block))
+
+abbrev pub IsRowIn : List ℕ → KeyRow → Type 0
+IsRowIn block row = (row.start ≤ row.end) × (row.end ≤ length block)
 
 -- the texts are those of the rows, which are sorted by their stamps
 pub record AreByStamp (texts : List (List ℕ)) (rows : List (ℕ × List ℕ)) : Type 0 where

@@ -5,10 +5,10 @@ use Rattle.awk_value.proofs.walk.keys_by_stamp.Goals as goal
 
 pub returns-clause-keys : goal.returns-clause-keys
 returns-clause-keys c =
-    let rows = joined-3 _ _ _ _ _ _ _ c.in_ok-list_longs.ensures c.in_ok-list_shorts.ensures c.in_ok-list_numbers.ensures c.in_ok-rows.ensures.items in
+    let rows = joined-3 _ _ _ _ _ _ _ c.in_ok-list_longs.ensures c.in_ok-list_shorts.ensures c.in_ok-list_numbers.ensures c.in_ok-rows.ensures in
     record {
-      sorted = c.sort_rows.new.rows.items;
-      moved = subst (λ l. IsPermutation l c.sort_rows.new.rows.items) rows c.sort_rows.ensures.moved;
-      ordered = c.in_ok-sort_rows.ensures.ordered;
-      are = c.in_ok-texts_of.ensures;
+      sorted = c.sort.new.self;
+      moved = subst (λ l. IsPermutation l c.sort.new.self) rows c.sort.ensures.moved;
+      ordered = c.in_ok-sort.ensures.ordered;
+      are = c.in_ok-into_texts.ensures;
     }

@@ -9,6 +9,6 @@ loop-number-preserved c =
     let n = c.loop-number.number in
     record {
       within = omega (arith, c.loop-number-test.true);
-      listed = one-listed (λ e. (e.1.stamp, signed_decimal e.0)) es n c.index-entries-number.result c.list_place.new.rows.items c.loop-number.rows.items c.args.rows.now.items
+      listed = one-listed (λ e. (e.1.stamp, signed_decimal e.0)) es n c.index-entries-number.result c.list_place.new.rows c.loop-number.rows c.args.rows.now
           c.loop-number-test.true c.index-entries-number.is c.loop-number.invariant.listed c.in_ok-list_place.ensures;
     }

@@ -6,7 +6,7 @@ use Rattle.awk_value.proofs.walk.list_dense.Given as goal
 abbrev pub invariant-loop-number : goal.invariant-loop-number
 invariant-loop-number l = record {
   within : l.number ≤ length l.entries;
-  listed : l.rows.items ≡ l.initial.rows.items ++ map (λ e. (e.1.stamp, signed_decimal e.0)) (numbered 0 (take l.number l.entries));
+  listed : l.rows ≡ l.initial.rows ++ map (λ e. (e.1.stamp, signed_decimal e.0)) (numbered 0 (take l.number l.entries));
 }
 
 abbrev pub decreases-loop-number : goal.decreases-loop-number

@@ -6,12 +6,12 @@ use Rattle.awk_value.proofs.walk.list_longs.Goals as goal
 pub loop-key-preserved : goal.loop-key-preserved
 loop-key-preserved c =
     let text = c.as_slice.ensures.value in
-    one_more (λ k. (k.1.now.stamp, k.0.now.items)) c.add_row.new.rows.items c.loop-key.rows.items c.args.rows.now.items c.loop-key.yielded (c.in-Some.key, c.in-Some.entry)
+    one_more (λ k. (k.1.now.stamp, k.0.now.items)) c.add.new.self c.loop-key.rows c.args.rows.now c.loop-key.yielded (c.in-Some.key, c.in-Some.entry)
     c.loop-key.invariant
-    (c.in_ok-add_row.ensures ∙ ap (λ t. c.loop-key.rows.items ++ (c.in-Some.entry.now.stamp, t) ∷ []) text)
+    (c.in_ok-add.ensures ∙ ap (λ t. c.loop-key.rows ++ (c.in-Some.entry.now.stamp, t) ∷ []) text)
 
 pub returns : goal.returns
 returns c =
     let es = c.args.entries.now.entries in
     let e : map (λ k. (k.0.now, k.1.now)) c.loop-key.yielded ≡ es = search (rules, iter_end) in
-    of_all (λ e. (e.1.stamp, e.0.items)) (λ k. (k.0.now, k.1.now)) c.loop-key.rows.items c.args.rows.now.items c.loop-key.yielded es c.loop-key.invariant e
+    of_all (λ e. (e.1.stamp, e.0.items)) (λ k. (k.0.now, k.1.now)) c.loop-key.rows c.args.rows.now c.loop-key.yielded es c.loop-key.invariant e

@@ -2,4 +2,4 @@ use Rattle.std.proofs.Common.{◌≡◌, ◌++◌, map}
 use Rattle.awk_value.proofs.walk.list_longs.Given as goal
 
 abbrev pub invariant-loop-key : goal.invariant-loop-key
-invariant-loop-key l = l.rows.items ≡ l.initial.rows.items ++ map (λ k. (k.1.now.stamp, k.0.now.items)) l.yielded
+invariant-loop-key l = l.rows ≡ l.initial.rows ++ map (λ k. (k.1.now.stamp, k.0.now.items)) l.yielded
