@@ -1,6 +1,6 @@
 // What a process is started with: the words after its name and its environment, as bytes (XBD 8.1).
 
-ghost use Rattle.std.specs.Prelude.{◌≡◌, IfOk};
+ghost use Rattle.std.specs.Prelude.{◌≡◌, ◌≤◌, length, IfOk, IfSome};
 ghost use Rattle.std.specs.Option.{option_map};
 ghost use Rattle.std.specs.Io.{WritesAtMost};
 ghost use Rattle.awk_run.specs.Start.{pair_of};
@@ -12,7 +12,7 @@ use std::alloc::{AllocError, Global};
 use std::env::{Env, FillError};
 
 /// The room for an entry at first.
-const ROOM: usize = 4_096;
+const ROOM: usize = 1_024;
 
 /// The lists that a process is started with.
 #[derive(Clone, Copy)]
@@ -31,17 +31,19 @@ fn fill<R: Env>(rt: &R, given: Given, at: usize, buffer: &mut [u8]) -> Result<us
     }
 }
 
-/// An entry, or none behind the last. The buffer grows until the entry fits.
-fn entry<R: Env>(
+/// Copies an entry to the front of the buffer, which grows until the entry fits, and answers its length, or none behind
+/// the last.
+fn read_entry<R: Env>(
     rt: &R,
-    alloc: Global,
     given: Given,
     at: usize,
     buffer: &mut Vec<u8>,
-) -> Result<Option<Vec<u8>>, AllocError> {
+) -> Result<Option<usize>, AllocError>
+    ensures { IfOk result (λ read. IfSome read (λ count. count ≤ length buffer.new.items)) }
+{
     for _ in 0..u64::BITS {
         match fill(rt, given, at, buffer) {
-            Ok(length) => return Ok(Some(buffer[..length].to_vec(alloc)?)),
+            Ok(count) => return Ok(Some(count)),
             Err(FillError::NotPresent) => return Ok(None),
             Err(FillError::TooLong) => {
                 let room = buffer.len().saturating_mul(2);
@@ -57,8 +59,8 @@ pub fn given_words<R: Env>(rt: &R, alloc: Global) -> Result<Vec<Vec<u8>>, AllocE
     let mut buffer = vec![in alloc; 0u8; ROOM]?;
     let mut words = Vec::new(alloc);
     for at in 1..usize::MAX {
-        match entry(rt, alloc, Given::Words, at, &mut buffer)? {
-            Some(word) => words.push(word)?,
+        match read_entry(rt, Given::Words, at, &mut buffer)? {
+            Some(count) => words.push(buffer[..count].to_vec(alloc)?)?,
             None => break,
         }
     }
@@ -83,10 +85,10 @@ pub fn given_environment<R: Env>(rt: &R, alloc: Global) -> Result<Vec<Assignment
     let mut buffer = vec![in alloc; 0u8; ROOM]?;
     let mut environ = Vec::new(alloc);
     for at in 0..usize::MAX {
-        let Some(entry) = entry(rt, alloc, Given::Environment, at, &mut buffer)? else {
+        let Some(count) = read_entry(rt, Given::Environment, at, &mut buffer)? else {
             break;
         };
-        if let Some(assignment) = named_text(alloc, &entry)? {
+        if let Some(assignment) = named_text(alloc, &buffer[..count])? {
             environ.push(assignment)?;
         }
     }
