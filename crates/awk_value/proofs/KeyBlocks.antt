@@ -1,8 +1,8 @@
 -- Rows of keys, whose texts stand in one block of bytes.
-use Rattle.std.proofs.Common.{◌≡◌, ℕ, suc, ◌+◌, ◌<◌, ◌≤◌, List, [], ◌∷◌, ◌++◌, map, length, take, drop, get_or, refl, sym, ap, ap₂, ◌∙◌, arith}
+use Rattle.std.proofs.Common.{◌≡◌, ℕ, suc, ◌<◌, List, [], ◌∷◌, ◌++◌, map, length, drop, get_or, refl, ap, ap₂, ◌∙◌, arith}
 use Rattle.std.specs.List.{All}
 use Rattle.std.specs.List.Sorted.{IsNonDecreasingBy}
-use Rattle.std.proofs.lemmas.List.{take-append-le, take_all, get_or-map, length-append, length-map}
+use Rattle.std.proofs.lemmas.List.{take-append-le, take_all, get_or-map, length-map}
 use Rattle.std.proofs.Math.Seq.{drop-append_seam}
 use Rattle.awk_value.specs.declared.key_rows.KeyRow.{KeyRow}
 use Rattle.awk_value.specs.support.Rows.{row_in, IsRowIn}

@@ -22,3 +22,4 @@ mod Lent
 mod PaddedEnd
 mod KeptKeys
 mod KeyBlocks
+mod PackedEnd

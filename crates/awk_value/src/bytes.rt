@@ -6,6 +6,7 @@ ghost use Rattle.std.specs.Prelude.{List, [], ◌++◌, length, take, drop, vec_
 
 mod cuts;
 
+use crate::packed::{self, PackedBytes};
 use crate::short::{MOST, ShortBytes};
 use std::alloc::{AllocError, Global};
 use std::marker::Model;
@@ -20,6 +21,8 @@ const LAST_PLACE: usize = u32::MAX as usize;
 enum Form {
     /// In the value itself.
     Short(ShortBytes),
+    /// In one piece of memory with the count of its owners.
+    Packed(PackedBytes),
     /// Those of this memory from a place up to another.
     Shared(Rc<Vec<u8>>, u32, u32),
     /// Those of this memory from a place on, where it is too large for places of 32 bits.
@@ -86,7 +89,7 @@ impl Bytes {
     /// The memory of the text, whatever it holds, where there is any and nothing else shares it.
     pub fn into_memory(self) -> Option<Vec<u8>> {
         match self.form {
-            Form::Short(..) => None,
+            Form::Short(..) | Form::Packed(..) => None,
             Form::Shared(memory, ..) | Form::Large(memory, ..) => Rc::into_inner(memory),
         }
     }
@@ -109,6 +112,7 @@ impl Bytes {
     {
         match &self.form {
             Form::Short(text) => text.as_slice(),
+            Form::Packed(text) => text.as_slice(),
             Form::Shared(memory, start, end) => {
                 &memory.as_slice()[*start as usize..*end as usize]
             }
@@ -148,6 +152,7 @@ impl Bytes {
     {
         match &self.form {
             Form::Short(text) => text.len(),
+            Form::Packed(text) => text.len(),
             Form::Shared(_, start, end) => (*end - *start) as usize,
             Form::Large(memory, start, _) => memory.len() - *start,
         }
@@ -173,6 +178,7 @@ impl Bytes {
                 *start += count as u32;
             }
             Form::Large(_, start, _) => *start += count,
+            Form::Packed(text) => text.advance(count),
             Form::Short(text) => *self = short(&text.as_slice()[count..]),
         }
     }
@@ -182,7 +188,7 @@ impl Bytes {
         ensures { self.new ≡ self.old }
     {
         match &mut self.form {
-            Form::Short(..) => {}
+            Form::Short(..) | Form::Packed(..) => {}
             Form::Shared(memory, start, end) => {
                 if move_to_front(memory, *start as usize, *end as usize) {
                     *end -= *start;
@@ -203,6 +209,7 @@ impl Bytes {
     pub(crate) fn is_settled(&self) -> bool {
         match &self.form {
             Form::Short(..) => true,
+            Form::Packed(text) => text.len() > MOST,
             Form::Shared(memory, ..) | Form::Large(memory, ..) => {
                 self.len() > MOST && memory.len() / 4 <= self.len() + 64
             }
@@ -235,6 +242,9 @@ impl Bytes {
     pub(crate) fn refill(&mut self, bytes: &[u8]) -> bool
         ensures { self.new ≡ (if result then bytes.now else self.old) }
     {
+        if let Form::Packed(text) = &mut self.form {
+            return text.refill(bytes);
+        }
         let Form::Shared(memory, start, end) = &mut self.form else {
             return false;
         };
@@ -269,7 +279,7 @@ impl Bytes {
     #[inline]
     pub(crate) fn has_memory(&self) -> bool {
         match &self.form {
-            Form::Shared(..) => true,
+            Form::Packed(..) | Form::Shared(..) => true,
             Form::Short(..) | Form::Large(..) => false,
         }
     }
@@ -301,6 +311,7 @@ impl Bytes {
     {
         match &mut self.form {
             Form::Short(text) => Ok(text.try_extend(bytes)),
+            Form::Packed(text) => Ok(text.try_extend(bytes)),
             Form::Shared(memory, _, end) => {
                 if bytes.len() > LAST_PLACE - *end as usize {
                     return Ok(false);
@@ -353,6 +364,11 @@ fn put_all(bytes: &[u8], line: &mut Vec<u8>, end: usize) -> bool
 fn copied(alloc: Global, bytes: &[u8]) -> Result<Bytes, AllocError>
     ensures { IfOk result (λ text. text ≡ bytes.now) }
 {
+    if bytes.len() <= packed::ROOM {
+        return Ok(Bytes {
+            form: Form::Packed(PackedBytes::new(alloc, bytes)?),
+        });
+    }
     Bytes::from_part(alloc, Vec::from_slice(alloc, bytes)?, bytes.len())
 }
 
@@ -420,11 +436,12 @@ fn extend_unshared(shared: &mut Rc<Vec<u8>>, end: usize, bytes: &[u8]) -> Result
 impl Clone for Bytes {
     ghost is_clone = { λ text copy. copy ≡ text };
 
-    #[inline]
+    #[inline(always)]
     fn clone(&self) -> Result<Bytes, AllocError> {
         Ok(Bytes {
             form: match &self.form {
                 Form::Short(text) => Form::Short(text.copy()),
+                Form::Packed(text) => Form::Packed(text.share()?),
                 Form::Shared(memory, start, end) => { Form::Shared(memory.clone()?, *start, *end) }
                 Form::Large(memory, start, alloc) => Form::Large(memory.clone()?, *start, *alloc),
             },

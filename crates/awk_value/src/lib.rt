@@ -23,6 +23,7 @@ mod number;
 mod number_keys;
 mod numbers;
 mod order;
+mod packed;
 mod short;
 mod short_keys;
 mod short_text;

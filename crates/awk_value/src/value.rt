@@ -132,7 +132,7 @@ impl Value {
 impl Clone for Value {
     ghost is_clone = { λ value copy. copy ≡ value };
 
-    #[inline]
+    #[inline(always)]
     fn clone(&self) -> Result<Value, AllocError> {
         Ok(match self {
             Value::Nothing => Value::Nothing,

@@ -3,6 +3,7 @@
 ghost use Rattle.std.specs.Prelude.{◌≡◌, ◌+◌, ◌≤◌, true, false, length, take, drop, IfOk};
 
 use super::{Bytes, Form, LAST_PLACE, short};
+use crate::packed::PackedBytes;
 use crate::short::{MOST, ShortBytes};
 use std::alloc::AllocError;
 use std::rc::Rc;
@@ -88,6 +89,7 @@ impl Bytes {
     {
         match &self.form {
             Form::Short(text) => Ok(short(&text.as_slice()[from..to])),
+            Form::Packed(text) => cut_packed(text, from, to),
             Form::Shared(memory, start, end) => {
                 let _end = *end;
                 cut_shared(memory, *start, from, to)
@@ -114,5 +116,19 @@ fn cut_shared(memory: &Rc<Vec<u8>>, start: u32, from: usize, to: usize) -> Resul
     }
     Ok(Bytes {
         form: Form::Shared(memory.clone()?, from as u32, to as u32),
+    })
+}
+
+/// The text of a part of a packed text.
+fn cut_packed(text: &PackedBytes, from: usize, to: usize) -> Result<Bytes, AllocError>
+    requires ordered { from ≤ to }
+    requires within { to ≤ length text.now }
+    ensures { IfOk result (λ part. part ≡ drop from (take to text.now)) }
+{
+    if to - from <= MOST {
+        return Ok(short(&text.as_slice()[from..to]));
+    }
+    Ok(Bytes {
+        form: Form::Packed(text.part(from, to)?),
     })
 }

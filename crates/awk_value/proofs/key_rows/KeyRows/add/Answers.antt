@@ -1,5 +1,4 @@
 use Rattle.std.proofs.Common.{◌≡◌, rules, ◌++◌, ◌∷◌, [], map, length, ap, ap₂, ◌∙◌}
-use Rattle.awk_value.specs.declared.key_rows.KeyRow.{KeyRow}
 use Rattle.awk_value.specs.support.Rows.{row_in}
 use Rattle.awk_value.proofs.KeyBlocks.{one_added}
 use Rattle.awk_value.proofs.key_rows.KeyRows.add.Goals as goal

@@ -1,6 +1,4 @@
-use Rattle.std.proofs.Common.{◌≡◌, List, ℕ, Ok, Err, map, ap, sym, ◌∙◌, subst}
-use Rattle.std.specs.Prelude.{Result, IfOk}
-use Rattle.std.specs.Global.{Vec}
+use Rattle.std.proofs.Common.{map, ap, sym, ◌∙◌, subst}
 use Rattle.std.specs.List.{All}
 use Rattle.awk_value.specs.support.Rows.{row_in, IsRowIn}
 use Rattle.awk_value.proofs.Rows.{map-twice, if_ok_same}
