@@ -258,7 +258,7 @@ impl<'a> Mistakes<'a> {
         match endless_call(body, function) {
             Some(token) => self.add(
                 token,
-                b"each call of this function comes to this call: fault 11 when it is met",
+                b"each call of this function comes to this call: fault 11 when it is met, if no other comes before",
                 b"decide by an if whether it is called again",
             ),
             None => Ok(()),
