@@ -194,7 +194,7 @@ pub(crate) fn plain_finding(
     Ok(finding)
 }
 
-/// The same at a token, whose text stands before the reason.
+/// As `plain_finding`, at a token, whose text stands before the reason.
 pub(crate) fn finding_of(
     alloc: Global,
     text: &[u8],

@@ -17,7 +17,7 @@ pub(crate) enum Mode {
     Shell,
     /// A run of the awk, of which is told where it ended.
     Run,
-    /// The same, with how often each statement ran.
+    /// As `Run`, with how often each statement ran.
     Count,
     Version,
     Help,

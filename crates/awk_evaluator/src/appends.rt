@@ -46,7 +46,7 @@ impl Machine {
         appended
     }
 
-    /// The same, by an empty text in which they are joined.
+    /// As `append_at_hand`, by an empty text in which they are joined.
     #[inline(always)]
     fn append_joined(
         &mut self,
@@ -104,7 +104,7 @@ impl Machine {
         self.is_done(appended)
     }
 
-    /// The same; gives what the target then holds.
+    /// As `append_any_operands`; gives what the target then holds.
     fn append_read(&mut self, target: &Target, parts: &[Operand]) -> Result<Value, Halt>
         ensures { AppendsOperands target.now parts.now self.old result self.new }
     {
@@ -119,7 +119,7 @@ impl Machine {
         }
     }
 
-    /// The same of a place with its operand.
+    /// As `append_read`, of a place with its operand.
     fn append_at(&mut self, place: Place, operand: &Value, parts: &[Operand]) -> Result<Value, Halt>
         ensures { AppendsAt place operand.now parts.now self.old result self.new }
     {

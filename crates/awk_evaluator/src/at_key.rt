@@ -41,7 +41,7 @@ impl Machine {
         }
     }
 
-    /// The same where the key is an operand.
+    /// As `at_key`, where the key is an operand.
     #[inline(always)]
     fn at_operand<W: AtKey + Drop>(&mut self, operand: &Operand, word: W) -> Option<W::Answer>
         ensures some { IfSome result (λ answer. Acts (λ value. IsAtHand operand.now value self.old) (W.does word) self.old answer self.new) }
@@ -69,7 +69,7 @@ impl Machine {
         self.field_of(operand)
     }
 
-    /// The same where the key is the texts of operands, one behind the other.
+    /// As `at_key`, where the key is the texts of operands, one behind the other.
     #[inline(always)]
     fn at_joined<W: AtKey + Drop>(&mut self, parts: &[Operand], word: W) -> Option<W::Answer>
         ensures some { IfSome result (λ answer. Acts (λ value. IsJoinedAtHand parts.now value self.old) (W.does word) self.old answer self.new) }
@@ -81,7 +81,7 @@ impl Machine {
         answer
     }
 
-    /// The same, by an empty text in which they are joined.
+    /// As `at_joined`, by an empty text in which they are joined.
     #[inline(always)]
     fn at_text<W: AtKey + Drop>(
         &mut self,

@@ -123,7 +123,7 @@ impl Machine {
         self.runtime.give_value(value)
     }
 
-    /// The same of two values. Numbers are given as they are.
+    /// As `give_top`, of two values. Numbers are given as they are.
     #[inline(always)]
     fn give_two(&mut self, forms: &[ArgumentForm]) -> Result<(), Halt>
         requires { forms.now ≡ ArgumentForm.Value ∷ ArgumentForm.Value ∷ [] }
@@ -141,7 +141,7 @@ impl Machine {
         self.runtime.give_value(Value::Number(right))
     }
 
-    /// The same as `give_arguments`, one after the other.
+    /// As `give_arguments`, one after the other.
     #[inline(never)]
     fn give_each(&mut self, forms: &[ArgumentForm]) -> Result<(), Halt>
         ensures { GivesAll forms.now self.old result self.new }

@@ -64,7 +64,7 @@ impl Machine {
         self.test_value()
     }
 
-    /// The same of a value of any kind.
+    /// As `test`, of a value of any kind.
     #[inline(never)]
     fn test_value(&mut self) -> bool
         ensures truth { truth_of (first self.old.operands.values) ≡ result }
@@ -128,7 +128,7 @@ impl Machine {
         relate_numbers(infix, m, n)
     }
 
-    /// The same of values that are no fields.
+    /// As `compare_others`, of values that are no fields.
     #[inline(never)]
     fn compare_values(
         &mut self,
@@ -144,7 +144,7 @@ impl Machine {
         self.compare_read(operator, left, right)
     }
 
-    /// The same of a field and a value of any kind.
+    /// As `compare_others`, of a field and a value of any kind.
     #[inline(never)]
     fn compare_field(
         &mut self,
@@ -160,7 +160,7 @@ impl Machine {
         self.compare_read(operator, left, right)
     }
 
-    /// The same of values that are read first.
+    /// As `compare_others`, of values that are read first.
     #[inline(never)]
     fn compare_read(
         &mut self,
@@ -280,7 +280,7 @@ impl Machine {
         self.match_other(operand, ere)
     }
 
-    /// The same of an operand that isn't the record.
+    /// As `match_operand`, of an operand that isn't the record.
     #[inline(never)]
     fn match_other(&mut self, operand: &Operand, ere: u32) -> Option<bool>
         ensures { Compares (Matches operand.now ere) self.old (told result self.new) self.new }

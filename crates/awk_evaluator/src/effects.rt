@@ -89,7 +89,7 @@ impl Machine {
         self.perform_other(world, node)
     }
 
-    /// The same of what isn't done in line.
+    /// As `perform`, of what isn't done in line.
     #[inline(never)]
     fn perform_other<W: World>(&mut self, world: &mut W, node: &EffectNode) -> bool
         requires ready { IsReady W.is_logged (W.state world.old) self.old.runtime.streams }
@@ -191,7 +191,7 @@ impl Machine {
         self.is_done(printed)
     }
 
-    /// The same of one operand, where it is a field that can be held back as it stands; elsewhere nothing changes.
+    /// As `print_operands`, of one operand, where it is a field that can be held back as it stands; elsewhere nothing changes.
     #[inline(always)]
     pub(crate) fn hold_field<W: World>(&mut self, world: &W, operand: &Operand) -> bool
         requires ready { IsReady W.is_logged (W.state world.now) self.old.runtime.streams }
@@ -205,7 +205,7 @@ impl Machine {
         self.runtime.hold_field(world, n)
     }
 
-    /// The same of any operands; an `Err` is what it came to.
+    /// As `print_operands`, of any operands; an `Err` is what it came to.
     #[inline(never)]
     fn print_each<W: World>(&mut self, world: &mut W, operands: &[Operand]) -> Result<(), Halt>
         requires ready { IsReady W.is_logged (W.state world.old) self.old.runtime.streams }

@@ -181,7 +181,7 @@ impl Machine {
         self.update_behind(operator, array, key, operand)
     }
 
-    /// The same, however the key and the operand stand.
+    /// As `update_element`, however the key and the operand stand.
     #[inline(never)]
     fn update_behind(
         &mut self,
@@ -201,7 +201,7 @@ impl Machine {
         }
     }
 
-    /// The same where the key and the operand are at hand, and the element changes where it stands.
+    /// As `update_element`, where the key and the operand are at hand, and the element changes where it stands.
     #[inline(always)]
     fn change_at_hand(
         &mut self,
@@ -222,7 +222,7 @@ impl Machine {
         }
     }
 
-    /// The same of an operand of any value, where no operator is applied.
+    /// As `change_at_hand`, of an operand of any value, where no operator is applied.
     #[inline(never)]
     fn put_at_hand(
         &mut self,
@@ -305,7 +305,7 @@ impl Machine {
         self.increment_value(operator, target)
     }
 
-    /// The same where the key is at hand, and that changes where it stands.
+    /// As `increment_element`, where the key is at hand, and that changes where it stands.
     #[inline(always)]
     fn raise_at_hand(&mut self, operator: IncrementOperator, array: Array, key: &Key) -> bool
         ensures raised { result ≡ true → Done (λ r. Raises operator (ElementTarget array key.now) self.old r self.new) (Ok tt) }

@@ -54,7 +54,7 @@ impl Machine {
         self.put_any_value(world, plan, node, next)
     }
 
-    /// The same of matches that are exchanged where they stand.
+    /// As `put_value`, of matches that are exchanged by operands that are read where they stand.
     #[inline(never)]
     fn put_substituted<W: World>(
         &mut self,
@@ -73,7 +73,7 @@ impl Machine {
         }
     }
 
-    /// The same of whether an operand matches a pattern.
+    /// As `put_value`, of whether an operand matches a pattern.
     #[inline(never)]
     fn put_match<W: World>(
         &mut self,
@@ -118,7 +118,7 @@ impl Machine {
         }
     }
 
-    /// The same of a value that isn't at hand.
+    /// As `put_value`, of a value that isn't at hand.
     #[inline(never)]
     fn put_any_value<W: World>(
         &mut self,
@@ -157,7 +157,7 @@ impl Machine {
         }
     }
 
-    /// The same of any value.
+    /// As `put_any_value`, of any value.
     #[inline(always)]
     fn put_evaluated<W: World>(
         &mut self,

@@ -199,7 +199,7 @@ impl Machine {
         }
     }
 
-    /// The same of two operands.
+    /// As `put_position`, of two operands.
     #[inline(always)]
     fn put_position_of(&mut self, text: &Operand, part: &Operand) -> bool
         ensures puts { result ≡ true → PutsApplied Index (text.now ∷ part.now ∷ []) 0 self.old self.new }
@@ -215,7 +215,7 @@ impl Machine {
         }
     }
 
-    /// The same of an operand and the topmost value.
+    /// As `put_position`, of an operand and the topmost value.
     #[inline(always)]
     fn replace_by_position(&mut self, text: &Operand) -> bool
         ensures puts { result ≡ true → PutsApplied Index (text.now ∷ []) 1 self.old self.new }
@@ -266,7 +266,7 @@ impl Machine {
         others.is_empty() && self.replace_by_part(text, count)
     }
 
-    /// The same of positions that are operands.
+    /// As `put_substring`, of positions that are operands.
     #[inline(always)]
     fn put_part(&mut self, text: &Operand, positions: &[Operand]) -> bool
         ensures puts { result ≡ true → PutsApplied Substr (text.now ∷ positions.now) 0 self.old self.new }
@@ -281,7 +281,7 @@ impl Machine {
         }
     }
 
-    /// The same of so many values.
+    /// As `put_substring`, of so many values.
     #[inline(always)]
     fn replace_by_part(&mut self, text: &Operand, count: u32) -> bool
         ensures puts { result ≡ true → PutsApplied Substr (text.now ∷ []) count self.old self.new }

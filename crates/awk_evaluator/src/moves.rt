@@ -98,7 +98,8 @@ fn halt_of(ending: Ending) -> Halt
 }
 
 impl Machine {
-    /// One move. What a node does is decided here, once: what is at hand is done in line, and all else by functions of their own.
+    /// One move. Each sort of node has a function here. Those of values, effects and walks match the kinds that loops are full of, and
+    /// do in line what is at hand; what falls through is matched again, by `evaluate`, `act` and `make_rare_move`, which have all kinds.
     #[inline(always)]
     pub(crate) fn make_move<W: World>(&mut self, world: &mut W, plan: &Plan, node: &Node) -> Move
         requires sound { IsSound plan.now }
@@ -208,7 +209,7 @@ impl Machine {
         self.give_nothing_to_caller()
     }
 
-    /// The same where a call is active, or its operands aren't dropped yet.
+    /// As `give_nothing`, where a call is active, or its operands aren't dropped yet.
     #[inline(never)]
     fn give_nothing_to_caller(&mut self) -> Move
         ensures { GivesBack Nothing self.old result self.new }

@@ -284,7 +284,7 @@ impl Operands {
         self.hand_over_any(base)
     }
 
-    /// The same of any number of values.
+    /// As `hand_over`, of any number of values.
     #[inline(never)]
     fn hand_over_any(&mut self, base: usize) -> Result<(), AllocError>
         ensures { OnOk result (self.new ≡ record { values = first self.old.values ∷ reverse (drop base self.old.below); below = take base self.old.below }) }

@@ -31,7 +31,7 @@ impl Machine {
         self.hold_operands(world, operands)
     }
 
-    /// The same of operands of any kind, whose texts are joined in the memory of a line.
+    /// As `hold_at_hand`, of operands of any kind, whose texts are joined in the memory of a line.
     #[inline]
     fn hold_operands<W: World>(&mut self, world: &W, operands: &[Operand]) -> bool
         requires ready { IsReady W.is_logged (W.state world.now) self.old.runtime.streams }
@@ -45,7 +45,7 @@ impl Machine {
         holds
     }
 
-    /// The same in this memory, where nothing changes where the line isn't held back.
+    /// As `hold_operands`, in this memory, where nothing changes where the line isn't held back.
     #[inline(always)]
     fn hold_line<W: World>(&mut self, world: &W, operands: &[Operand], line: &mut Vec<u8>) -> bool
         requires empty { line.old.items ≡ [] }
@@ -76,7 +76,7 @@ impl Machine {
         self.join_others(line, others)
     }
 
-    /// The same, with that of OFS before each.
+    /// As `join_operands`, with that of OFS before each.
     #[inline(always)]
     fn join_others(&mut self, line: &mut Vec<u8>, operands: &[Operand]) -> bool
         ensures appends { result ≡ true → AppendsBehind operands.now self.old.runtime line.old.items line.new.items }

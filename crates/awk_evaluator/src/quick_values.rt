@@ -219,7 +219,7 @@ impl Machine {
         true
     }
 
-    /// The same of a value and an operand.
+    /// As `put_operated`, of a value and an operand.
     #[inline(always)]
     fn put_operated_with(&mut self, operator: Operator, right: &Operand) -> bool
         ensures puts { result ≡ true → Puts (OperateWith (Infix operator) right.now) self.old self.new }
@@ -238,7 +238,7 @@ impl Machine {
         true
     }
 
-    /// The same of two operands.
+    /// As `put_operated`, of two operands.
     #[inline(always)]
     fn put_operated_on(&mut self, operator: Operator, left: &Operand, right: &Operand) -> bool
         ensures puts { result ≡ true → Puts (OperateOn (Infix operator) left.now right.now) self.old self.new }

@@ -29,7 +29,7 @@ impl Machine {
         }
     }
 
-    // The same of an ERE of the program. The operand is read where it stands.
+    // As `match_in`, of an ERE of the program. The operand is read where it stands.
     #[inline(never)]
     fn match_ere(&mut self, ere: u32) -> Result<Value, Halt>
         ensures { Computes (Match (SomeOf ere)) self.old result self.new }
@@ -43,7 +43,7 @@ impl Machine {
         Ok(position)
     }
 
-    // The same of the pattern that the topmost operand spells.
+    // As `match_in`, of the pattern that the topmost operand spells.
     #[inline(never)]
     fn match_pattern(&mut self) -> Result<Value, Halt>
         ensures { Computes (Match NoneOf) self.old result self.new }

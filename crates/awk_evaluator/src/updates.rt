@@ -242,7 +242,7 @@ impl Machine {
         true
     }
 
-    /// The same as `assign_to` of values of any kind.
+    /// As `assign_to`, of values of any kind.
     #[inline(never)]
     fn assign_value(&mut self, operator: AssignmentOperator, place: &Place) -> bool
         ensures { Done (λ r. Computes (Assign operator place.now) self.old r self.new) (came result self.new) }
@@ -311,7 +311,7 @@ impl Machine {
         self.is_done(assigned)
     }
 
-    /// The same of any variable.
+    /// As `assign_slot`, of any variable.
     #[inline(never)]
     fn assign_any(&mut self, variable: Variable) -> bool
         ensures { Done (λ r. Computes (Assign AssignmentOperator.Plain (Place.Variable variable)) self.old r self.new) (came result self.new) }
@@ -399,7 +399,7 @@ impl Machine {
         true
     }
 
-    /// The same of what a place holds of any kind.
+    /// As `raise`, of what a place holds of any kind.
     #[inline(never)]
     fn raise_value(&mut self, operator: IncrementOperator, place: &Place) -> bool
         ensures { Done (λ r. Computes (PostIncrement operator place.now) self.old r self.new) (came result self.new) }

@@ -173,7 +173,7 @@ impl Machine {
         }
     }
 
-    /// The same, where the variable's text grows where it stands: whether it does, and else nothing changes.
+    /// As `append_texts`, where the variable's text grows where it stands: whether it does, and else nothing changes.
     #[inline(always)]
     fn append_each(&mut self, variable: &Variable, count: usize) -> Result<bool, Halt>
         ensures appended { result ≡ Ok true → Done (λ r. Appends variable.now count self.old r self.new) (Ok tt) }
@@ -188,7 +188,7 @@ impl Machine {
         Ok(true)
     }
 
-    /// The same of any variable.
+    /// As `append_texts`, of any variable.
     #[inline(never)]
     fn append_any(&mut self, variable: &Variable, count: u32) -> bool
         ensures { Done (λ r. Appends variable.now count self.old r self.new) (came result self.new) }
@@ -197,7 +197,7 @@ impl Machine {
         self.is_done(appended)
     }
 
-    /// The same; gives what the variable then holds.
+    /// As `append_texts`; gives what the variable then holds.
     fn append_all(&mut self, variable: Variable, count: usize) -> Result<Value, Halt>
         ensures { Appends variable count self.old result self.new }
     {

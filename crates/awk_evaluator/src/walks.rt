@@ -30,7 +30,7 @@ impl Machine {
         self.is_done(laid)
     }
 
-    /// The same; an `Err` is what it came to.
+    /// As `begin_walk`; an `Err` is what it came to.
     fn lay_keys(&mut self, array: Array) -> Result<(), Halt>
         ensures { PutsKeys array self.old result self.new }
     {
@@ -62,7 +62,7 @@ impl Machine {
         self.is_done(given)
     }
 
-    /// The same; an `Err` is what it came to.
+    /// As `take_key`; an `Err` is what it came to.
     fn give_key(&mut self, variable: Variable) -> Result<(), Halt>
         ensures { TakesKey variable self.old result self.new }
     {

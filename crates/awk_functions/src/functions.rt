@@ -57,7 +57,7 @@ fn shared_part(text: &Bytes, start: i128, count: Option<i128>) -> Result<Value, 
     Ok(Value::Text(text.cut(span.start, span.end)?))
 }
 
-// The same of bytes, which are copied.
+// As `shared_part`, of bytes, which are copied.
 fn copied_part(
     alloc: Global,
     text: &[u8],

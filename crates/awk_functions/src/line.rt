@@ -92,7 +92,7 @@ fn put_bytes(line: &mut Vec<u8>, end: usize, bytes: &[u8]) -> bool
     true
 }
 
-// The same of the decimal form of a number.
+// As `put_bytes`, of the decimal form of a number.
 #[inline(never)]
 fn put_number(line: &mut Vec<u8>, end: usize, number: i128) -> bool
     ensures { line.new.items ≡ (if result then line.old.items ++ signed_decimal number else line.old.items) }
@@ -101,7 +101,7 @@ fn put_number(line: &mut Vec<u8>, end: usize, number: i128) -> bool
     put_bytes(line, end, digits.format(number).as_bytes())
 }
 
-// The same of the text of a value.
+// As `put_bytes`, of the text of a value.
 #[inline(always)]
 fn put_text(line: &mut Vec<u8>, end: usize, value: &Value) -> bool
     ensures { line.new.items ≡ (if result then line.old.items ++ str_of value.now else line.old.items) }

@@ -171,7 +171,7 @@ impl Patterns {
         }
     }
 
-    // The same of a text that spells none of the newest.
+    // As `cached_pattern`, of a text that spells none of the newest.
     #[inline(never)]
     fn older_pattern(&mut self, text: &[u8]) -> Result<&mut Compiled, Halt>
         ensures { ReadsFor text.now (λ c. c.now.text) result }
@@ -242,8 +242,8 @@ impl Patterns {
         Ok(pattern.is_match(text))
     }
 
-    /// The same of an ERE of the program, by its number and the text between its slashes, where it was read before: then there is no
-    /// fault. `None` elsewhere. (POSIX awk, Regular Expressions)
+    /// As `matches_text`, of an ERE of the program, by its number and the text between its slashes, where it was read before: then
+    /// there is no fault. `None` elsewhere. (POSIX awk, Regular Expressions)
     #[inline(never)]
     pub fn matches_read(&mut self, number: usize, spelling: &[u8], text: &[u8]) -> Option<bool>
         ensures { IfSome result (λ holds. matched (pattern_in spelling.now) text.now ≡ Ok holds) }
@@ -321,7 +321,7 @@ impl Patterns {
         self.exchange_written(operand, replacement, text, all)
     }
 
-    // The same of any value, whose text is written first where it is a number.
+    // As `exchange`, of any value, whose text is written first where it is a number.
     #[inline(never)]
     fn exchange_written(
         &mut self,
@@ -342,8 +342,8 @@ impl Patterns {
         pattern.exchange(alloc, replacement, text, all)
     }
 
-    /// The same of a text, which is searched where it stands. What is left of it where a first match at its front or at its end is left
-    /// out shares its memory.
+    /// As `exchange`, of a text, which is searched where it stands. What is left of it where a first match at its front or at its
+    /// end is left out shares its memory.
     #[inline(always)]
     pub fn exchange_in(
         &mut self,

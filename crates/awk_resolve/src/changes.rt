@@ -68,7 +68,7 @@ impl Builder {
         Ok(Some(append))
     }
 
-    /// The same of one that is none of these; none where it appends parts that may change variables.
+    /// As `lower_assignment`, of one that is none of these; none where it appends parts that may change variables.
     fn lower_any_assignment(
         &mut self,
         scope: &Scope,
@@ -115,7 +115,7 @@ impl Builder {
         Ok(Some(step))
     }
 
-    /// The same where the number before is the value.
+    /// As `lower_pre_raise`, where the number before is the value.
     fn lower_post_raise(
         &mut self,
         scope: &Scope,

@@ -220,7 +220,7 @@ impl Builder {
         self.lower(scope, e, contains)
     }
 
-    /// The same with several subscripts.
+    /// As `lower_membership`, with several subscripts.
     #[cycle(expressions)]
     fn lower_list_membership(
         &mut self,

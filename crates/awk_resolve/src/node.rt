@@ -136,13 +136,13 @@ pub enum ValueNode {
     CountElements(Array),
     /// A built-in function of so many values.
     Apply(BuiltIn, u32),
-    /// The same of operands that are read where they stand, with so many values behind them.
+    /// As `Apply`, of operands that are read where they stand, with so many values behind them.
     ApplyTo(BuiltIn, Vec<Operand>, u32),
     Match(Option<u32>),
     Split(Array, SplitBy),
     /// `gsub`, or else `sub`; by an ERE or a text on the stack; in a place or in the record.
     Substitute(bool, Option<u32>, Option<Place>),
-    /// The same with nothing on the stack.
+    /// As `Substitute`, with nothing on the stack.
     SubstituteIn(Exchange),
     /// `getline`, to a place or to the record.
     Getline(Source, Option<Place>),
@@ -179,11 +179,11 @@ pub enum Node {
     Spend(u32),
     /// Goes on at the first place where a test holds, and else at the second.
     Test(Tested, u32, u32),
-    /// The same of what an operator makes of the topmost value and an operand.
+    /// As `Test`, of what an operator makes of the topmost value and an operand.
     CompareWith(BinaryOperator, Operand, u32, u32),
-    /// The same of what an operator makes of two operands.
+    /// As `Test`, of what an operator makes of two operands.
     Compare(BinaryOperator, Operand, Operand, u32, u32),
-    /// The same of whether an operand has a match of an ERE of the program.
+    /// As `Test`, of whether an operand has a match of an ERE of the program.
     Match(Operand, u32, u32, u32),
     /// Assigns the topmost value to a place, whose operand lies below it; both are taken off.
     Assign(AssignmentOperator, Place, u32),

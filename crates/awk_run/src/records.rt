@@ -66,7 +66,7 @@ fn begin_next<W: World>(machine: &mut Machine, world: &mut W) -> Result<bool, Ha
     search_next(machine, world)
 }
 
-/// The same, where the record may have to be looked for.
+/// As `begin_next`, where the record may have to be looked for.
 #[inline(never)]
 fn search_next<W: World>(machine: &mut Machine, world: &mut W) -> Result<bool, Halt>
     requires ready { IsReady W.is_logged (W.state world.old) machine.old.runtime.streams }

@@ -94,7 +94,7 @@ impl Runtime {
         Ok(true)
     }
 
-    /// The same of the element at a key, if it is there and the key is at hand.
+    /// As `append_bytes_to`, of the element at a key, if it is there and the key is at hand.
     #[inline(always)]
     pub fn append_bytes_in(
         &mut self,

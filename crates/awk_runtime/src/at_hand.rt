@@ -94,7 +94,7 @@ impl Runtime {
         self.any_field(number)
     }
 
-    /// The same, however the record stands.
+    /// As `field_at_hand`, however the record stands.
     #[inline(never)]
     fn any_field(&mut self, number: i128) -> Option<Value>
         ensures some { IfSome result (λ value. Changes (read_field number) self.old self.new (Ok value)) }
@@ -256,7 +256,7 @@ impl Runtime {
         self.change_other(operator, variable, n)
     }
 
-    /// The same of a slot.
+    /// As `change_number`, of a slot.
     #[inline(always)]
     fn change_slot(&mut self, operator: AssignmentOperator, slot: u32, n: i128) -> bool
         ensures changes { result ≡ true → GivesNumber (assign_by_at self.old.names.scalars (assigned_by operator) (VariablePlace (Variable.Global slot)) Nothing (Number n)) self.old self.new }
@@ -273,7 +273,7 @@ impl Runtime {
         true
     }
 
-    /// The same of a variable that has no slot.
+    /// As `change_number`, of a variable that has no slot.
     #[inline(never)]
     fn change_other(&mut self, operator: AssignmentOperator, variable: &Variable, n: i128) -> bool
         ensures changes { result ≡ true → GivesNumber (assign_by_at self.old.names.scalars (assigned_by operator) (VariablePlace variable.now) Nothing (Number n)) self.old self.new }
@@ -297,7 +297,7 @@ impl Runtime {
         self.raise_other(operator, variable)
     }
 
-    /// The same of a slot.
+    /// As `raise_in_place`, of a slot.
     #[inline(always)]
     fn raise_slot(&mut self, operator: IncrementOperator, slot: u32) -> bool
         ensures raises { result ≡ true → GivesNumber (post_increment_at self.old.names.scalars operator (VariablePlace (Variable.Global slot)) Nothing) self.old self.new }
@@ -314,7 +314,7 @@ impl Runtime {
         true
     }
 
-    /// The same of a variable that has no slot.
+    /// As `raise_in_place`, of a variable that has no slot.
     #[inline(never)]
     fn raise_other(&mut self, operator: IncrementOperator, variable: &Variable) -> bool
         ensures raises { result ≡ true → GivesNumber (post_increment_at self.old.names.scalars operator (VariablePlace variable.now) Nothing) self.old self.new }

@@ -91,7 +91,7 @@ impl Runtime {
         self.complete_any(kinds)
     }
 
-    /// The same, however many are given.
+    /// As `complete_given`, however many are given.
     #[inline(never)]
     fn complete_any(&mut self, kinds: &[bool]) -> Result<(), Halt>
         ensures given { OnOk result (self.new ≡ completed kinds.now self.old) }

@@ -85,7 +85,7 @@ impl Runtime {
         self.next_of_any(world, kind, name)
     }
 
-    // The same where the name or RS is no text.
+    // As `next_of`, where the name or RS is no text.
     #[inline(never)]
     fn next_of_any<W: World>(
         &mut self,

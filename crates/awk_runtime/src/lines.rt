@@ -119,7 +119,7 @@ impl Runtime {
         append_stretch(line, text.as_slice(), span.start, span.end)
     }
 
-    /// The same of a field that is no stretch of the record.
+    /// As `join_field`, of a field that is no stretch of the record.
     #[inline(never)]
     fn join_other_field(&mut self, line: &mut Vec<u8>, number: i128) -> bool
         ensures appends { result ≡ true → AppendsText (read_field number) self.old line.old.items line.new.items }

@@ -93,8 +93,8 @@ impl Runtime {
         self.streams.hold(text.as_slice(), end.as_slice())
     }
 
-    // The same of a record whose text is still to be made of its fields: the first time they are printed as they stand, and it isn't
-    // made.
+    // As `hold_record`, of a record whose text is still to be made of its fields: the first time they are printed as they stand,
+    // and it isn't made.
     #[inline(never)]
     fn hold_fields<W: World>(&mut self, world: &W) -> bool
         requires ready { IsReady W.is_logged (W.state world.now) self.old.streams }
@@ -118,7 +118,7 @@ impl Runtime {
         holds
     }
 
-    // The same of field 0.
+    // As `hold_fields`, of field 0.
     #[inline(never)]
     fn hold_whole<W: World>(&mut self, world: &W) -> bool
         requires ready { IsReady W.is_logged (W.state world.now) self.old.streams }
@@ -170,7 +170,7 @@ impl Runtime {
         !values.is_empty() && self.hold_line(world, values)
     }
 
-    // The same of a line of the values, of which there may be none.
+    // As `hold_values`, of a line of the values, of which there may be none.
     #[inline(always)]
     fn hold_line<W: World>(&mut self, world: &W, values: &[Value]) -> bool
         requires ready { IsReady W.is_logged (W.state world.now) self.old.streams }

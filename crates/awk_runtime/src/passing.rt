@@ -63,7 +63,7 @@ fn count_of(text: &[u8], byte: u8) -> usize
     count + count_in_few(rest, byte)
 }
 
-/// The same of a text of few bytes.
+/// As `count_of`, of a text of few bytes.
 fn count_in_few(text: &[u8], byte: u8) -> usize
     ensures { result ≡ count_by (is_byte byte) text.now }
 {

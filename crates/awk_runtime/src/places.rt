@@ -144,7 +144,7 @@ impl Runtime {
         self.post_increment_any(operator, place, operand)
     }
 
-    /// The same of a place that holds no number, or that is a field.
+    /// As `post_increment_at`, of a place that holds no number, or that is a field.
     #[inline(never)]
     fn post_increment_any(
         &mut self,
@@ -184,7 +184,7 @@ impl Runtime {
         }
     }
 
-    /// The same of an element and a number.
+    /// As `update_by`, of an element and a number.
     #[inline(never)]
     fn update_element(
         &mut self,
@@ -207,7 +207,7 @@ impl Runtime {
         Some(updated)
     }
 
-    /// The same of a variable and a number.
+    /// As `update_by`, of a variable and a number.
     #[inline(always)]
     pub(crate) fn update_number(
         &mut self,

@@ -97,7 +97,7 @@ impl Runtime {
         self.made_record_has_match(ere)
     }
 
-    // The same of a record whose text may still have to be made of its fields.
+    // As `record_has_match`, of a record whose text may still have to be made of its fields.
     #[inline(never)]
     fn made_record_has_match(&mut self, ere: u32) -> Result<bool, Halt>
         ensures { Changes (record_tested (ere_at self.old.names ere)) self.old self.new (as_truth result) }
@@ -234,7 +234,7 @@ impl Runtime {
         }
     }
 
-    /// The same in the record. (POSIX awk, String Functions: sub, gsub)
+    /// As `substitute`, in the record. (POSIX awk, String Functions: sub, gsub)
     #[inline(always)]
     pub fn substitute_in_record(
         &mut self,
@@ -272,8 +272,8 @@ impl Runtime {
         self.exchange(all, pattern, replacement, &old)
     }
 
-    /// The same in a variable, by an ERE of the program. A text is searched where the variable holds it. (POSIX awk, String Functions:
-    /// sub, gsub)
+    /// As `substitute`, in a variable, by an ERE of the program. A text is searched where the variable holds it. (POSIX awk, String
+    /// Functions: sub, gsub)
     #[inline(always)]
     pub fn substitute_in_variable(
         &mut self,
@@ -323,7 +323,7 @@ impl Runtime {
         }
     }
 
-    // The same in a copy of what the variable holds.
+    // As `exchange_in_variable`, in a copy of what the variable holds.
     #[inline(never)]
     fn exchange_in_copy(
         &mut self,

@@ -249,7 +249,7 @@ impl Program {
         self.world_that_breaks(alloc, self.answers.len(), 0)
     }
 
-    // The same, where the input at a place breaks behind so many bytes.
+    // As `world`, where the input at a place breaks behind so many bytes.
     fn world_that_breaks(
         &self,
         alloc: Global,
@@ -435,7 +435,7 @@ fn expect_disturbances(rt: &impl Abort, alloc: Global, program: &Program) -> Res
     Ok(whole)
 }
 
-// The same of the rows of a table, with buffers of this size; and of those that end where an input breaks, breaks.
+// As `expect_disturbances`, of the rows of a table, with buffers of this size; and of those that end where an input breaks, breaks.
 fn expect_disturbed_rows(
     rt: &impl Abort,
     alloc: Global,
