@@ -2,11 +2,9 @@
 use Rattle.std.proofs.Common.{◌≡◌, ◌≢◌, ℤ, ℕ, Bool, List, drop, take, Option, Some, None, Result, Ok, Err, refl, sym, ap, ◌∙◌, subst}
 use Rattle.std.specs.Prelude.{IfSome, IfNone}
 use Rattle.std.specs.Result.{result_ok}
-use Rattle.awk_value.specs.declared.fault.ValueFault.{ValueFault}
 use Rattle.awk_value.specs.declared.value.Value.{Value}
 use Rattle.awk_value.specs.declared.value.Value.TheVariants as value
-use Rattle.awk_value.specs.Arithmetic.{product_of, sum_of, difference_of, quotient_of, remainder_of, power_of}
-use Rattle.awk_value.specs.Values.{num_of, str_of, numeric_of, order_by, order_of, from_numbers}
+use Rattle.awk_value.specs.Values.{num_of, str_of, numeric_of, order_by, order_of}
 use Rattle.awk_value.proofs.CutOfCut.{drop_of_take}
 use Rattle.awk_text.specs.declared.span.Span.{Span}
 use Rattle.awk_text.specs.Pieces.{stretch_at, IsSpanOf}
@@ -17,7 +15,7 @@ use Rattle.awk_lex.specs.declared.token.Operator.{Operator}
 use Rattle.awk_lex.specs.declared.token.Operator.TheVariants as operator
 use Rattle.awk_grammar.specs.declared.tree.BinaryOperator.TheVariants.{Infix}
 use Rattle.awk_semantics.specs.declared.halt.Halt.{Halt}
-use Rattle.awk_semantics.specs.Faults.{of_record, of_values}
+use Rattle.awk_semantics.specs.Faults.{of_record}
 use Rattle.awk_semantics.specs.Operators.{applied, pattern_in, relates, truth_value}
 use Rattle.awk_semantics.specs.Primitives.{read_field}
 use Rattle.awk_semantics.specs.Semantics.{Functions}
@@ -27,6 +25,7 @@ use Rattle.awk_resolve.specs.declared.node.ValueNode.{ValueNode}
 use Rattle.awk_resolve.specs.declared.node.ValueNode.TheVariants as v
 use Rattle.awk_resolve.specs.Nodes.{Tables, popped, value_of, assign_variable}
 use Rattle.awk_functions.specs.definitions.Matched.{matched}
+use Rattle.awk_functions.specs.support.Numbers.{IsOfNumbers}
 use Rattle.awk_functions.proofs.Orders.{related_as}
 use Rattle.awk_runtime.specs.declared.runtime.Runtime.{Runtime}
 use Rattle.awk_runtime.specs.Naming.{Naming, ere_at}
@@ -42,7 +41,7 @@ use Rattle.awk_evaluator.specs.Rest.{tables_in}
 use Rattle.awk_evaluator.specs.Moves.{Computes}
 use Rattle.awk_evaluator.specs.Reading.{ComparesBy, Compares}
 use Rattle.awk_evaluator.specs.Quick.{IsAtHand, IsFieldOf, IsAsGood, Puts, Pushed, Relates}
-use Rattle.awk_evaluator.specs.Applied.{HasNumber, IsOfNumbers, StaysAlike}
+use Rattle.awk_evaluator.specs.Applied.{HasNumber, StaysAlike}
 use Rattle.awk_evaluator.proofs.Computing.{ended}
 use Rattle.awk_evaluator.proofs.Joining.{operand_matched}
 use Rattle.awk_evaluator.proofs.Quickly.{truth_is}
@@ -74,27 +73,6 @@ number_known {w = w} at is = record { value = w; at = at; number = is }
 pub good_number : (o : AssignmentOperator) (a : Operand) (m : Machine) (r : Option ℤ) → o ≢ assignment.Plain → IfSome r (λ n. HasNumber a n m) → IfSome r (λ n. IsAsGood o a n m)
 good_number o a m None other h = tt
 good_number o a m (Some n) other h = record { found = h.value; at_hand = h.at; alike = number_alike o h.value (Some n) other (sym (ap result_ok h.number)) }
-
-arithmetic_by : (f : ℤ → ℤ → Result ℤ ValueFault) (x y : Value) (m n : ℤ) → num_of x ≡ Ok m → num_of y ≡ Ok n → of_values (from_numbers f (num_of x) (num_of y)) ≡ of_values (from_numbers f (Ok m) (Ok n))
-arithmetic_by f x y m n e e' = ap (λ r. of_values (from_numbers f r (num_of y))) e ∙ ap (λ r. of_values (from_numbers f (Ok m) r)) e'
-
-pub plus_of_numbers : IsOfNumbers operator.Plus
-plus_of_numbers x y m n e e' = arithmetic_by sum_of x y m n e e'
-
-pub minus_of_numbers : IsOfNumbers operator.Minus
-minus_of_numbers x y m n e e' = arithmetic_by difference_of x y m n e e'
-
-pub times_of_numbers : IsOfNumbers operator.Times
-times_of_numbers x y m n e e' = arithmetic_by product_of x y m n e e'
-
-pub divide_of_numbers : IsOfNumbers operator.Divide
-divide_of_numbers x y m n e e' = arithmetic_by quotient_of x y m n e e'
-
-pub remainder_of_numbers : IsOfNumbers operator.Remainder
-remainder_of_numbers x y m n e e' = arithmetic_by remainder_of x y m n e e'
-
-pub power_of_numbers : IsOfNumbers operator.Power
-power_of_numbers x y m n e e' = arithmetic_by power_of x y m n e e'
 
 pub numbers_operated : (o : Operator) {a b : Operand} (m n : ℤ) {w : Value} {k mid behind k' : Machine} → mid ≡ k → behind ≡ mid → IsOfNumbers o → HasNumber a m k → HasNumber b n mid → applied o (value.Number m) (value.Number n) ≡ Ok w → Pushed w behind k' → Puts (v.OperateOn (Infix o) a b) k k'
 numbers_operated o m n same next of left right e p = operated_on_puts same next left.at right.at (of left.value right.value m n left.number right.number ∙ e) p

@@ -5,32 +5,22 @@ ghost use Rattle.awk_value.specs.declared.value.Value.TheVariants.{Number};
 ghost use Rattle.awk_grammar.specs.declared.tree.BinaryOperator.TheVariants.{Infix};
 ghost use Rattle.awk_semantics.specs.Operators.{applied};
 ghost use Rattle.awk_resolve.specs.declared.node.ValueNode.TheVariants.{OperateOn};
-ghost use Rattle.awk_evaluator.specs.Applied.{HasNumber, IsOfNumbers};
+ghost use Rattle.awk_functions.specs.Numbers.{IsOfNumbers};
+ghost use Rattle.awk_evaluator.specs.Applied.{HasNumber};
 ghost use Rattle.awk_evaluator.specs.Quick.{Puts};
 
 use crate::machine::Machine;
-use awk_functions::apply_in_short;
+use awk_functions::compute_in_short;
 use awk_lex::token::Operator;
 use awk_resolve::node::Operand;
 
-/// Whether an operator makes of two values what it makes of their numbers.
-#[inline(always)]
-fn is_arithmetic(operator: Operator) -> bool
-    ensures { result ≡ true → IsOfNumbers operator }
-{
-    match operator {
-        Operator::Plus | Operator::Minus | Operator::Times => true,
-        Operator::Divide | Operator::Remainder | Operator::Power => true,
-        _ => false,
-    }
-}
-
-/// What an operator makes of two numbers, where that is found in a few steps.
+/// What an operator of arithmetic makes of two numbers, where that is found in a few steps.
 #[inline(never)]
-fn apply(operator: Operator, m: i128, n: i128) -> Option<i128>
-    ensures { IfSome result (λ z. applied operator (Number m) (Number n) ≡ Ok (Number z)) }
+fn compute(operator: Operator, m: i128, n: i128) -> Option<i128>
+    ensures some { IfSome result (λ z. applied operator (Number m) (Number n) ≡ Ok (Number z)) }
+    ensures of_numbers { IfSome result (λ z. IsOfNumbers operator) }
 {
-    apply_in_short(operator, m, n)
+    compute_in_short(operator, m, n)
 }
 
 impl Machine {
@@ -45,16 +35,13 @@ impl Machine {
         ensures puts { result ≡ true → Puts (OperateOn (Infix operator) left.now right.now) self.old self.new }
         ensures kept { result ≡ false → self.new ≡ self.old }
     {
-        if !is_arithmetic(operator) {
-            return false;
-        }
         let Some(m) = self.number_read(left) else {
             return false;
         };
         let Some(n) = self.number_read(right) else {
             return false;
         };
-        let Some(z) = apply(operator, m, n) else {
+        let Some(z) = compute(operator, m, n) else {
             return false;
         };
         self.put(z)

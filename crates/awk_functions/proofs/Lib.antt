@@ -1,3 +1,4 @@
+mod OfNumbers
 mod PatternFinds
 mod ReadsFor
 pub mod Orders

@@ -1,3 +1,4 @@
 pub mod Compiled
 pub mod Kept
+pub mod Numbers
 pub mod Written

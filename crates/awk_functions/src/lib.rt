@@ -9,6 +9,7 @@ mod functions;
 mod line;
 mod operators;
 mod patterns;
+mod relations;
 mod short;
 
 pub use compiled::Compiled;
@@ -18,6 +19,7 @@ pub use functions::apply_function;
 pub use line::{
     append, append_each, append_line, concatenate, concatenate_all, join, joined_key, make_line,
 };
-pub use operators::{apply, by_one, change, exit_status, operator_of, raise, relate, truth_value};
+pub use operators::{apply, by_one, change, exit_status, operator_of, raise, truth_value};
 pub use patterns::{PatternOperand, Patterns};
-pub use short::{apply_in_short, relate_numbers};
+pub use relations::{relate, relate_numbers};
+pub use short::{apply_in_short, compute_in_short};

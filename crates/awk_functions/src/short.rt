@@ -3,10 +3,10 @@
 ghost use Rattle.std.specs.Prelude.{◌≡◌, Ok, IfSome};
 ghost use Rattle.awk_value.specs.declared.value.Value.TheVariants.{Number};
 ghost use Rattle.awk_value.specs.Arithmetic.{product_of, quotient_of, remainder_of};
-ghost use Rattle.awk_value.specs.declared.value.Value.{Value as AnyValue};
-ghost use Rattle.awk_value.specs.Values.{order_of};
-ghost use Rattle.awk_semantics.specs.Operators.{applied, relates, truth_value};
+ghost use Rattle.awk_semantics.specs.Operators.{applied};
+ghost use Rattle.awk_functions.specs.support.Numbers.{IsOfNumbers};
 
+use crate::relations::relate_numbers;
 use awk_lex::token::Operator;
 
 /// The product of two numbers that are short. `None` of longer ones.
@@ -42,25 +42,26 @@ fn short_remainder(x: i128, y: i128) -> Option<i128>
     Some(i128::from(short.checked_rem(other)?))
 }
 
-/// Whether two numbers are so related. `None` of an operator that is no relation. (POSIX awk, Expressions in awk)
+/// The number that an operator of arithmetic makes of two numbers. `None` of any other operator, and where that isn't found in a few
+/// steps, as of long factors, of a power or of a fault. (POSIX awk, Expressions in awk)
 #[inline(always)]
-pub fn relate_numbers(operator: Operator, x: i128, y: i128) -> Option<bool>
-    ensures holds { IfSome result (λ holds. applied operator (Number x) (Number y) ≡ Ok (truth_value holds)) }
-    ensures relation { IfSome result (λ holds. (u v : AnyValue) → applied operator u v ≡ Ok (truth_value (relates operator (order_of u v)))) }
+pub fn compute_in_short(operator: Operator, x: i128, y: i128) -> Option<i128>
+    ensures some { IfSome result (λ n. applied operator (Number x) (Number y) ≡ Ok (Number n)) }
+    ensures of_numbers { IfSome result (λ n. IsOfNumbers operator) }
 {
     match operator {
-        Operator::Less => Some(x < y),
-        Operator::LessEqual => Some(x <= y),
-        Operator::Equal => Some(x == y),
-        Operator::NotEqual => Some(x != y),
-        Operator::Greater => Some(x > y),
-        Operator::GreaterEqual => Some(x >= y),
+        Operator::Plus => x.checked_add(y),
+        Operator::Minus => x.checked_sub(y),
+        Operator::Times => short_product(x, y),
+        Operator::Divide => short_quotient(x, y),
+        Operator::Remainder => short_remainder(x, y),
         Operator::Power
-        | Operator::Times
-        | Operator::Divide
-        | Operator::Remainder
-        | Operator::Plus
-        | Operator::Minus
+        | Operator::Less
+        | Operator::LessEqual
+        | Operator::Equal
+        | Operator::NotEqual
+        | Operator::Greater
+        | Operator::GreaterEqual
         | Operator::Matches
         | Operator::NotMatches
         | Operator::And
@@ -68,29 +69,15 @@ pub fn relate_numbers(operator: Operator, x: i128, y: i128) -> Option<bool>
     }
 }
 
-/// The number that an operator makes of two numbers. `None` where that isn't found in a few steps, as of long factors or a fault.
-/// (POSIX awk, Expressions in awk)
+/// The number that an operator makes of two numbers: of arithmetic, or 1 or 0 where they are related so. `None` where that isn't found
+/// in a few steps. (POSIX awk, Expressions in awk)
 #[inline(always)]
 pub fn apply_in_short(operator: Operator, x: i128, y: i128) -> Option<i128>
     ensures { IfSome result (λ n. applied operator (Number x) (Number y) ≡ Ok (Number n)) }
 {
-    if let Operator::Plus = operator {
-        return x.checked_add(y);
+    if let Some(n) = compute_in_short(operator, x, y) {
+        return Some(n);
     }
-    if let Operator::Minus = operator {
-        return x.checked_sub(y);
-    }
-    match operator {
-        Operator::Plus => x.checked_add(y),
-        Operator::Minus => x.checked_sub(y),
-        Operator::Times => short_product(x, y),
-        Operator::Divide => short_quotient(x, y),
-        Operator::Remainder => short_remainder(x, y),
-        Operator::Power | Operator::Matches | Operator::NotMatches | Operator::And | Operator::Or =>
-            { None }
-        _ => {
-            let holds = relate_numbers(operator, x, y)?;
-            Some(i128::from(holds))
-        }
-    }
+    let holds = relate_numbers(operator, x, y)?;
+    Some(i128::from(holds))
 }

@@ -378,13 +378,8 @@ pub(crate) fn number_assigned(operator: AssignmentOperator, old: &Value, n: i128
 pub(crate) fn number_by(operator: AssignmentOperator, old: i128, n: i128) -> Option<i128>
     ensures { IfSome result (λ new. ChangesValue (assigned_by operator) n (Number old) (Number new)) }
 {
-    match operator {
-        AssignmentOperator::Plain => Some(n),
-        AssignmentOperator::Add => old.checked_add(n),
-        AssignmentOperator::Subtract => old.checked_sub(n),
-        _ => match operator_of(operator) {
-            Some(operator) => apply_in_short(operator, old, n),
-            None => None,
-        },
+    match operator_of(operator) {
+        Some(operator) => apply_in_short(operator, old, n),
+        None => Some(n),
     }
 }

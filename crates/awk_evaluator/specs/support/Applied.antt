@@ -32,10 +32,6 @@ pub record HasNumber (a : Operand) (n : ℤ) (m : Machine) : Type 0 where
   pub at : IsAtHand a value m
   pub number : num_of value ≡ Ok n
 
--- an operator makes of two values what it makes of their numbers
-abbrev pub IsOfNumbers : Operator → Type 0
-IsOfNumbers o = (x y : Value) (m n : ℤ) → num_of x ≡ Ok m → num_of y ≡ Ok n → applied o x y ≡ applied o (value.Number m) (value.Number n)
-
 -- nothing is changed that the definitions know
 pub record StaysAlike (m m' : Machine) : Type 0 where
   pub operands : m'.operands ≡ m.operands
