@@ -7,6 +7,7 @@ use crate::reasons::{
 use crate::statements::{StatementScan, begins_for, have_name, is_of_awk, names_set};
 use awk_findings::Finding;
 use awk_findings::calls::{kind_before, kind_behind};
+use awk_kinds::is_of_values;
 use awk_lex::token::{
     AssignmentOperator, BuiltIn, IncrementOperator, Keyword, Kind, Operator, Token,
 };
@@ -66,13 +67,8 @@ fn is_addition(tokens: &[Token], at: usize) -> bool {
 /// Why a built-in function in END is a reason.
 fn reason_of_call_in_end(function: BuiltIn) -> &'static [u8] {
     match function {
-        BuiltIn::Length
-        | BuiltIn::Substr
-        | BuiltIn::Index
-        | BuiltIn::Sprintf
-        | BuiltIn::ToLower
-        | BuiltIn::ToUpper
-        | BuiltIn::Int => b"",
+        BuiltIn::Length => b"",
+        _ if is_of_values(function) => b"",
         _ => b" in END",
     }
 }

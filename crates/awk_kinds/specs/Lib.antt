@@ -9,3 +9,4 @@ pub use Rattle.awk_kinds.specs.definitions.Kinds
 pub use Rattle.awk_kinds.specs.definitions.NameUses
 pub use Rattle.awk_kinds.specs.definitions.Fits
 pub use Rattle.awk_kinds.specs.definitions.Signatures
+pub use Rattle.awk_kinds.specs.definitions.OfValues

@@ -6,3 +6,4 @@ pub mod Kinds
 pub mod NameUses
 pub mod Fits
 pub mod Signatures
+pub mod OfValues

@@ -1,5 +1,5 @@
-//! The special variables of a run, each at its index.
-//! Which names of a program are arrays, and which programs fit: where statements stand, and how names are used.
+//! What names stand for: awk's own variables, each at its index; which names of a program are arrays, and its functions by their
+//! numbers; and which programs fit: where statements stand, and how names are used.
 #![tactic(auto)]
 
 mod arrays;
@@ -11,6 +11,7 @@ mod laws;
 mod misuses;
 mod mixed;
 mod name_table;
+mod of_values;
 mod parameters;
 mod placed;
 mod reach;
@@ -24,6 +25,7 @@ pub mod variable;
 
 pub use kinds::Kinds;
 pub use laws::{law_of_array_names, law_of_kinds, law_of_refusals};
+pub use of_values::is_of_values;
 pub use parameters::Parameters;
 pub use refusal::resolve;
 pub use special::Special;

@@ -13,7 +13,7 @@ use Rattle.awk_grammar.specs.Tree.{Expr, Number, String, Ere, Name, Element, Fie
 use Rattle.awk_pieces.specs.definitions.Pieceable.{no_own, may_be_called, keeps_to_record, all_keep_to_record, may_keep_to_record, is_of_record, is_own_place, sets_own, name_set_first, also, behind, is_plain, may_be_set, is_setting, is_simple_setting, only_sets, all_only_set, pattern_keeps_to_record}
 use Rattle.awk_pieces.proofs.ReadsAlike.{left_true, right_true}
 use Rattle.awk_merging.specs.definitions.Sums.{Sum, is_taken}
-use Rattle.awk_merging.specs.definitions.Mergeable.{is_plus, is_plus_one, is_array_sum, knows, is_of_values, is_standard, is_sum, is_sum_place, is_addition, is_simple_summing, is_part_summing, only_sums, all_only_sum, shows, is_free, is_changeable, is_pattern, reads_sums, all_read_sums, may_read_sums, are_printed, is_printed, sets_free, is_simple_of_end, is_part_of_end, only_prints, all_only_print, is_mergeable_item, are_mergeable}
+use Rattle.awk_merging.specs.definitions.Mergeable.{is_plus, is_plus_one, is_array_sum, knows, makes_value, is_standard, is_sum, is_sum_place, is_addition, is_simple_summing, is_part_summing, only_sums, all_only_sum, shows, is_free, is_changeable, is_pattern, reads_sums, all_read_sums, may_read_sums, are_printed, is_printed, sets_free, is_simple_of_end, is_part_of_end, only_prints, all_only_print, is_mergeable_item, are_mergeable}
 
 abbrev plain : Scope
 plain = outside_functions
@@ -59,7 +59,7 @@ no_split own builtin.System es may = absurd (cc)
 no_split own builtin.Close es may = absurd (cc)
 no_split own builtin.Fflush es may = absurd (cc)
 
-no_split_of_values : (f : BuiltInName) (es : Exprs) → is_of_values f es ≡ true → split_into plain f es ≡ []
+no_split_of_values : (f : BuiltInName) (es : Exprs) → makes_value f es ≡ true → split_into plain f es ≡ []
 no_split_of_values builtin.Length es may = refl
 no_split_of_values builtin.Substr es may = refl
 no_split_of_values builtin.Index es may = refl
@@ -327,7 +327,7 @@ module _ (own : List ℕ → Bool) (xs : List Sum) where
           let rest = right_true (reads_sums xs visible c) _ is in
           both (uses_in_expr plain c) (uses_in_expr plain a ++ uses_in_expr plain b) (shown c (left_true (reads_sums xs visible c) _ is))
           (both (uses_in_expr plain a) (uses_in_expr plain b) (shown a (left_true (reads_sums xs visible a) _ rest)) (shown b (right_true (reads_sums xs visible a) _ rest)))
-      shown (BuiltIn f es) is = split_and (split_into plain f es) (uses_in_list plain es) (no_split_of_values f es (left_true (is_of_values f es) _ is)) (all_shown es (right_true (is_of_values f es) _ is))
+      shown (BuiltIn f es) is = split_and (split_into plain f es) (uses_in_list plain es) (no_split_of_values f es (left_true (makes_value f es) _ is)) (all_shown es (right_true (makes_value f es) _ is))
       shown (Membership e a) is = both (uses_in_expr plain e) (Used (Global a) ∷ []) (shown e (right_true (is_array_sum xs a) _ is)) (left_true (is_array_sum xs a) _ is, tt)
       shown (ListMembership es a) is = both (uses_in_list plain es) (Used (Global a) ∷ []) (all_shown es (right_true (is_array_sum xs a) _ is)) (left_true (is_array_sum xs a) _ is, tt)
       shown (PreIncrement o p) is = shown p (right_true (is_changeable p) _ is)

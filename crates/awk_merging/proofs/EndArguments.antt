@@ -6,7 +6,7 @@ use Rattle.awk_lex.specs.declared.token.BuiltIn.TheVariants as builtin
 use Rattle.awk_grammar.specs.Tree.{Expr, Number, String, Ere, Name, Element, Field, Group, Call, BuiltIn, Length, PreIncrement, PostIncrement, Getline, PipedGetline, Unary, Binary, Membership, ListMembership, Conditional, Assign, Exprs, Nil, Cons}
 use Rattle.awk_semantics.specs.definitions.BuiltIns.{Role, AsMeasured, roles_of, Argument, OfArray, bare_name}
 use Rattle.awk_merging.specs.definitions.Sums.{Sum}
-use Rattle.awk_merging.specs.definitions.Mergeable.{is_shown, is_of_values, reads_sums}
+use Rattle.awk_merging.specs.definitions.Mergeable.{is_shown, makes_value, reads_sums}
 
 -- an array that is measured is one that may be shown
 abbrev pub IsShownName : Option (List ℕ) → Type 0
@@ -47,7 +47,7 @@ begun_on false front a e es shown begun = tt
 begun_on true [] a e es shown begun = shown
 begun_on true (b ∷ front) a e es shown begun = begun
 
-pub begun_first : (c : BuiltInName) (es : Exprs) → is_of_values c es ≡ true → Begun (is_length c) [] es
+pub begun_first : (c : BuiltInName) (es : Exprs) → makes_value c es ≡ true → Begun (is_length c) [] es
 begun_first builtin.Length Nil may = absurd (cc)
 begun_first builtin.Length (Cons e es) may = tt
 begun_first builtin.Substr es may = tt
@@ -70,7 +70,7 @@ MayTake [] = Unit {0}
 MayTake (AsMeasured ∷ roles) = MayTake roles
 MayTake (role ∷ roles) = ⊥
 
-pub may_take : (c : BuiltInName) (es : Exprs) → is_of_values c es ≡ true → MayTake (roles_of c)
+pub may_take : (c : BuiltInName) (es : Exprs) → makes_value c es ≡ true → MayTake (roles_of c)
 may_take builtin.Length es may = tt
 may_take builtin.Substr es may = tt
 may_take builtin.Index es may = tt

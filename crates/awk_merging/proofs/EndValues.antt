@@ -36,7 +36,7 @@ use Rattle.awk_pieces.proofs.PlacesAlike.{within_also}
 use Rattle.awk_pieces.proofs.ReadsAlike.{left_true, right_true}
 use Rattle.awk_pieces.proofs.ValuesAndFaults.{IsValueOrFault, of_values_faults, changed_faults, applied_faults, format_faults, applied_all_faults}
 use Rattle.awk_merging.specs.definitions.Sums.{Sum, is_taken}
-use Rattle.awk_merging.specs.definitions.Mergeable.{is_array_sum, is_derived, is_shown, is_of_values, is_standard, is_free, is_changeable, is_pattern, reads_sums, all_read_sums, may_read_sums, are_printed, is_printed, sets_free, is_simple_of_end, is_part_of_end}
+use Rattle.awk_merging.specs.definitions.Mergeable.{is_array_sum, is_derived, is_shown, makes_value, is_standard, is_free, is_changeable, is_pattern, reads_sums, all_read_sums, may_read_sums, are_printed, is_printed, sets_free, is_simple_of_end, is_part_of_end}
 use Rattle.awk_merging.proofs.EndArguments.{IsShownName, IsShownArgument, AreMeasured, AreTaken, is_length, Begun, all_taken, begun_on, begun_first, MayTake, may_take, AreSome, bare_shown}
 use Rattle.awk_merging.proofs.OwnVariables.{not_true}
 use Rattle.awk_merging.proofs.ProgramSums.{AreProper}
@@ -211,7 +211,7 @@ module _ (shown : Names) (may : Shows shown) (xs : List Sum) (proper : AreProper
   length_alike (OfEre text ∷ rest) is = applied_alike builtin.Length (OfEre text ∷ rest)
   length_alike (OfPlace q old ∷ rest) is = applied_alike builtin.Length (OfPlace q old ∷ rest)
 
-  built_in_alike : (c : BuiltInName) (es : Exprs) (arguments : List Argument) → is_of_values c es ≡ true → AreTaken (is_length c) arguments → Does (apply_built_in c arguments) (apply_built_in c arguments)
+  built_in_alike : (c : BuiltInName) (es : Exprs) (arguments : List Argument) → makes_value c es ≡ true → AreTaken (is_length c) arguments → Does (apply_built_in c arguments) (apply_built_in c arguments)
   unfolding apply_built_in
   built_in_alike builtin.Length es arguments may are = length_alike arguments are
   built_in_alike builtin.Substr es arguments may are = applied_alike builtin.Substr arguments
@@ -256,8 +256,8 @@ module _ (shown : Names) (may : Shows shown) (xs : List Sum) (proper : AreProper
           let other = expression_alike b (right_true (reads_sums xs shown a) _ both) in
           next _ _ (tested_alike shown xs proper base base' (expression_alike c (left_true (reads_sums xs shown c) _ is))) (λ x. choose_alike xs proper base base' x here other)
       expression_alike (BuiltIn c es) is =
-          let may = left_true (is_of_values c es) _ is in
-          then_with xs proper base base' _ _ (arguments_alike (is_length c) es (roles_of c) [] (may_take c es may) (right_true (is_of_values c es) _ is) (begun_first c es may)) (λ arguments are. built_in_alike c es arguments may are)
+          let may = left_true (makes_value c es) _ is in
+          then_with xs proper base base' _ _ (arguments_alike (is_length c) es (roles_of c) [] (may_take c es may) (right_true (makes_value c es) _ is) (begun_first c es may)) (λ arguments are. built_in_alike c es arguments may are)
       expression_alike (Membership e a) is = next _ _ (expression_alike e (right_true (is_array_sum xs a) _ is)) (λ v. next _ _ (element_had a (str_of v) (left_true (is_array_sum xs a) _ is)) (λ y. gives_back _))
       expression_alike (ListMembership es a) is = next _ _ (keys_alike [] es (right_true (is_array_sum xs a) _ is)) (λ key. next _ _ (element_had a key (left_true (is_array_sum xs a) _ is)) (λ y. gives_back _))
       expression_alike (PreIncrement c p) is = then_with xs proper base base' _ _ (place_alike p (left_true (is_changeable p) _ is) (right_true (is_changeable p) _ is)) (λ q held. assigned_by (Some (by_one c)) q one held)

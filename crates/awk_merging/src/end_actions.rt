@@ -5,7 +5,7 @@ ghost use Rattle.awk_grammar.specs.Tree.{For, ForIn};
 ghost use Rattle.awk_grammar.specs.View as g;
 ghost use Rattle.awk_semantics.specs.definitions.Operators.{takes_pattern};
 ghost use Rattle.awk_merging.specs.definitions.Sums.{is_taken};
-ghost use Rattle.awk_merging.specs.definitions.Mergeable.{is_sum, is_of_values, is_standard, is_free, is_changeable, is_pattern, reads_sums, all_read_sums, may_read_sums, are_printed, is_printed, sets_free, is_simple_of_end, is_part_of_end, only_prints, all_only_print};
+ghost use Rattle.awk_merging.specs.definitions.Mergeable.{is_sum, makes_value, is_standard, is_free, is_changeable, is_pattern, reads_sums, all_read_sums, may_read_sums, are_printed, is_printed, sets_free, is_simple_of_end, is_part_of_end, only_prints, all_only_print};
 ghost use Rattle.awk_pieces.specs.support.Known.{own_of, set_of};
 ghost use Rattle.awk_merging.specs.support.Others.{shown_in};
 ghost use Rattle.awk_merging.specs.support.SumsOf.{sums_of};
@@ -15,24 +15,19 @@ use crate::sums::{Sum, is_array_sum, is_sum, is_taken};
 use awk_grammar::tree::{
     BinaryOperator, Expr, ForParts, Output, PrintList, SimpleStatement, Statement,
 };
+use awk_kinds::is_of_values;
 use awk_lex::token::{AssignmentOperator, BuiltIn, Operator};
 use awk_pieces::{Known, name_behind, name_set_first};
 use awk_value::Bytes;
 use std::alloc::AllocError;
 
 /// Whether the built-in function does no more than make a value of its arguments.
-fn is_of_values(function: BuiltIn, arguments: &[Expr]) -> bool
-    ensures { result ≡ is_of_values function (g.exprs_of arguments.now) }
+fn makes_value(function: BuiltIn, arguments: &[Expr]) -> bool
+    ensures { result ≡ makes_value function (g.exprs_of arguments.now) }
 {
     match function {
         BuiltIn::Length => !arguments.is_empty(),
-        BuiltIn::Substr
-        | BuiltIn::Index
-        | BuiltIn::Sprintf
-        | BuiltIn::ToLower
-        | BuiltIn::ToUpper
-        | BuiltIn::Int => true,
-        _ => false,
+        _ => is_of_values(function),
     }
 }
 
@@ -100,7 +95,7 @@ fn reads_sums(others: &Others, e: &Expr) -> bool
         Expr::Membership(e, array) => is_array_sum(others.sums, array.as_slice())
             && reads_sums(others, e),
         Expr::BuiltIn(function, arguments) => {
-            is_of_values(*function, arguments) && all_read_sums(others, arguments)
+            makes_value(*function, arguments) && all_read_sums(others, arguments)
         }
         Expr::PreIncrement(_, place) | Expr::PostIncrement(_, place) => {
             is_changeable(place) && reads_sums(others, place)

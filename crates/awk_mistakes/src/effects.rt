@@ -5,21 +5,13 @@ use crate::mistakes::Mistakes;
 use crate::statements::{Item, Simple, closing};
 use awk_findings::Note;
 use awk_findings::calls::{Stretch, kind_before, kind_behind, name_of, place_of};
+use awk_kinds::is_of_values;
 use awk_lex::token::{AssignmentOperator, BuiltIn, Keyword, Kind, Operator, Token};
 use std::alloc::AllocError;
 
 /// Whether a built-in function only gives a value.
 fn gives_only(function: BuiltIn) -> bool {
-    matches!(
-        function,
-        BuiltIn::Length
-            | BuiltIn::Substr
-            | BuiltIn::Index
-            | BuiltIn::Sprintf
-            | BuiltIn::ToLower
-            | BuiltIn::ToUpper
-            | BuiltIn::Int
-    )
+    matches!(function, BuiltIn::Length) || is_of_values(function)
 }
 
 /// Whether something may come of a statement that has this token.

@@ -6,6 +6,7 @@ ghost use Rattle.awk_pieces.specs.definitions.Pieceable.{is_own_place, sets_own,
 
 use crate::readable::Readable;
 use awk_grammar::tree::{Expr, Pattern, PrintList};
+use awk_kinds::is_of_values;
 use awk_lex::token::{AssignmentOperator, BuiltIn};
 
 /// Whether the expression is a place in the record: a field, NF, or a variable of it.
@@ -34,15 +35,9 @@ fn may_be_called<R: Readable>(readable: &R, function: BuiltIn, arguments: &[Expr
     ensures { result ≡ may_be_called (R.own readable.now) function (g.exprs_of arguments.now) }
 {
     match function {
-        BuiltIn::Length
-        | BuiltIn::Substr
-        | BuiltIn::Index
-        | BuiltIn::Sprintf
-        | BuiltIn::ToLower
-        | BuiltIn::ToUpper
-        | BuiltIn::Int => true,
+        BuiltIn::Length => true,
         BuiltIn::Sub | BuiltIn::Gsub => third_is_of_record(readable, arguments),
-        _ => false,
+        _ => is_of_values(function),
     }
 }
 

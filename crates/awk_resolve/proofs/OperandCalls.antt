@@ -21,7 +21,8 @@ use Rattle.awk_resolve.specs.declared.node.Node.TheVariants as n
 use Rattle.awk_resolve.specs.definitions.Nodes.{operand_values, taken}
 use Rattle.awk_resolve.specs.support.Builds.{Grows, Pushes, Extends, IsIn, Program, Evaluate, EvaluateAll, Builds, AreOperandsOf, FindsEachOperand, Stands}
 use Rattle.awk_resolve.specs.support.Operands.{reads_in_place}
-use Rattle.awk_resolve.specs.support.Readings.{is_of_values, all_read, is_field_number, is_read_behind}
+use Rattle.awk_kinds.specs.OfValues.{is_of_values}
+use Rattle.awk_resolve.specs.support.Readings.{all_read, is_field_number, is_read_behind}
 use Rattle.awk_resolve.specs.support.Scopes.{MeasuredBy, LowersValue}
 use Rattle.awk_resolve.proofs.Calculus.{assoc_at, go_same, later_same, first_same, given}
 use Rattle.awk_resolve.proofs.Building.{grows, extends, behind, still}

@@ -20,7 +20,8 @@ use Rattle.awk_semantics.specs.definitions.Semantics.{Functions, right_operand, 
 use Rattle.awk_resolve.specs.definitions.Nodes.{operated}
 use Rattle.awk_resolve.specs.support.Operands.{is_strict}
 use Rattle.awk_resolve.specs.support.Parts.{with_last, parts_behind}
-use Rattle.awk_resolve.specs.support.Readings.{is_of_values, only_reads, all_read, parts_read}
+use Rattle.awk_kinds.specs.OfValues.{is_of_values}
+use Rattle.awk_resolve.specs.support.Readings.{only_reads, all_read, parts_read}
 use Rattle.awk_resolve.proofs.Calculus.{go_same}
 use Rattle.awk_resolve.proofs.ExpressionForms.{applied_strictly}
 use Rattle.awk_resolve.proofs.InPlaceForms.{Strict, strict}

@@ -2,26 +2,11 @@
 
 ghost use Rattle.std.specs.Prelude.{◌≡◌, true};
 ghost use Rattle.awk_grammar.specs.View.{expr_of, exprs_of};
-ghost use Rattle.awk_resolve.specs.support.Readings.{is_of_values, only_reads, all_read, parts_read, is_field_number, is_read_behind};
+ghost use Rattle.awk_resolve.specs.support.Readings.{only_reads, all_read, parts_read, is_field_number, is_read_behind};
 
 use crate::expressions::is_strict;
 use awk_grammar::tree::{BinaryOperator, Expr};
-use awk_lex::token::BuiltIn;
-
-/// Whether a built-in function is one of values alone.
-fn is_of_values(function: BuiltIn) -> bool
-    ensures { result ≡ is_of_values function }
-{
-    match function {
-        BuiltIn::Substr
-        | BuiltIn::Index
-        | BuiltIn::Sprintf
-        | BuiltIn::ToLower
-        | BuiltIn::ToUpper
-        | BuiltIn::Int => true,
-        _ => false,
-    }
-}
+use awk_kinds::is_of_values;
 
 /// Whether an expression only reads, as far as its form tells. It may make elements.
 #[cycle(readings)]

@@ -9,6 +9,7 @@ use Rattle.awk_lex.specs.declared.token.IncrementOperator.{IncrementOperator}
 use Rattle.awk_lex.specs.declared.token.IncrementOperator.TheVariants as increment
 use Rattle.awk_grammar.specs.declared.tree.BinaryOperator.{BinaryOperator}
 use Rattle.awk_grammar.specs.Tree.{Expr, Number, String, Ere, Name, Element, Group, BuiltIn, PreIncrement, PostIncrement, Unary, Binary, Membership, ListMembership, Conditional, Assign, Exprs, Nil, Cons, OptionalExpr, NoExpr, AnExpr, PrintList, Bare, Parenthesized, Output, Standard, Redirected, SimpleStatement, Expression, Print, Delete, DeleteAll, Next, Break, Continue, Exit, OptionalSimple, NoSimple, ASimple, Statement, Empty, Simple, Block, If, IfElse, While, Do, ForIn, For, Statements, NoMore, Then, Item, Begin, End, Action, PatternAction}
+use Rattle.awk_kinds.specs.OfValues.{is_of_values}
 use Rattle.awk_semantics.specs.definitions.Operators.{takes_pattern}
 use Rattle.awk_pieces.specs.definitions.Pieceable.{tells_apart, is_plain, keeps_to_record, all_keep_to_record, may_keep_to_record, all_only_set, pattern_keeps_to_record, names_set_in_rules, is_own, sets_own, name_set_first, also, behind}
 use Rattle.awk_merging.specs.definitions.Sums.{Sum, ByKey, Alone, name_of_sum, merge_what, merge_key, is_taken}
@@ -116,16 +117,10 @@ abbrev pub shows : (own : List ℕ → Bool) → List ℕ → Bool
 shows own x = is_shown x && not (own x)
 
 -- the built-in functions that make a value of values; without an argument `length` is that of the record
-abbrev pub is_of_values : BuiltInName → Exprs → Bool
-is_of_values builtin.Length Nil = false
-is_of_values builtin.Length (Cons e es) = true
-is_of_values builtin.Substr es = true
-is_of_values builtin.Index es = true
-is_of_values builtin.Sprintf es = true
-is_of_values builtin.ToLower es = true
-is_of_values builtin.ToUpper es = true
-is_of_values builtin.Int es = true
-is_of_values f es = false
+abbrev pub makes_value : BuiltInName → Exprs → Bool
+makes_value builtin.Length Nil = false
+makes_value builtin.Length (Cons e es) = true
+makes_value f es = is_of_values f
 
 abbrev pub is_standard : Output → Bool
 is_standard Standard = true
@@ -228,7 +223,7 @@ module _ (sums : List Sum) (shown : List ℕ → Bool) where
     reads_sums (Unary o e) = reads_sums e
     reads_sums (Binary o a b) = reads_sums a && (is_pattern o b || reads_sums b)
     reads_sums (Conditional c a b) = reads_sums c && (reads_sums a && reads_sums b)
-    reads_sums (BuiltIn f es) = is_of_values f es && all_read_sums es
+    reads_sums (BuiltIn f es) = makes_value f es && all_read_sums es
     reads_sums (Membership e a) = is_array_sum sums a && reads_sums e
     reads_sums (ListMembership es a) = is_array_sum sums a && all_read_sums es
     reads_sums (PreIncrement o place) = is_changeable place && reads_sums place

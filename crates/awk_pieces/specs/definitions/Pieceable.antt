@@ -6,6 +6,7 @@ use Rattle.awk_lex.specs.declared.token.AssignmentOperator.{AssignmentOperator}
 use Rattle.awk_lex.specs.declared.token.AssignmentOperator.TheVariants as assignment
 use Rattle.awk_grammar.specs.Tree.{Expr, Number, String, Ere, Name, Field, Group, BuiltIn, Length, PreIncrement, PostIncrement, Unary, Binary, Conditional, Assign, Exprs, Nil, Cons, OptionalExpr, NoExpr, AnExpr, PrintList, Bare, Parenthesized, Output, Standard, Redirected, SimpleStatement, Expression, Print, Next, Break, Continue, OptionalSimple, NoSimple, ASimple, Statement, Empty, Simple, Block, If, IfElse, While, Do, For, Statements, NoMore, Then, Pattern, Single, Range, Item, Begin, Action, PatternAction, PatternOnly}
 use Rattle.awk_kinds.specs.Names.{has_name}
+use Rattle.awk_kinds.specs.OfValues.{is_of_values}
 
 -- the variables that tell where in the input a record stands
 abbrev pub is_counter : List ℕ → Bool
@@ -116,15 +117,9 @@ module _ (own : List ℕ → Bool) where
   -- the built-in functions that do no more than make a value of values, or exchange in the record
   abbrev pub may_be_called : BuiltInName → Exprs → Bool
   may_be_called builtin.Length es = true
-  may_be_called builtin.Substr es = true
-  may_be_called builtin.Index es = true
-  may_be_called builtin.Sprintf es = true
-  may_be_called builtin.ToLower es = true
-  may_be_called builtin.ToUpper es = true
-  may_be_called builtin.Int es = true
   may_be_called builtin.Sub es = third_is_of_record es
   may_be_called builtin.Gsub es = third_is_of_record es
-  may_be_called f es = false
+  may_be_called f es = is_of_values f
 
 -- the same, where the variables of these names may be read
 module _ (own known : List ℕ → Bool) where

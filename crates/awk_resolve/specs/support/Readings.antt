@@ -1,19 +1,9 @@
 -- Expressions that only read.
 use Rattle.std.specs.Prelude.{pos, Bool, true, false, ◌&&◌}
-use Rattle.awk_lex.specs.declared.token.BuiltIn.{BuiltIn as BuiltInName}
-use Rattle.awk_lex.specs.declared.token.BuiltIn.TheVariants as f
 use Rattle.awk_grammar.specs.declared.tree.BinaryOperator.TheVariants.{Concatenate}
 use Rattle.awk_grammar.specs.Tree.{Expr, Number, String, Ere, Name, Element, Field, Group, BuiltIn, Length, Unary, Binary, Membership, ListMembership, Conditional, Exprs, Nil, Cons}
+use Rattle.awk_kinds.specs.OfValues.{is_of_values}
 use Rattle.awk_resolve.specs.support.Operands.{is_strict}
-
-abbrev pub is_of_values : BuiltInName → Bool
-is_of_values f.Substr = true
-is_of_values f.Index = true
-is_of_values f.Sprintf = true
-is_of_values f.ToLower = true
-is_of_values f.ToUpper = true
-is_of_values f.Int = true
-is_of_values g = false
 
 -- they change no variable and no record; they may make elements
 abbrev mutual

@@ -3,25 +3,25 @@ use Rattle.awk_grammar.specs.Tree as g
 use Rattle.awk_grammar.specs.View.{expr_of, exprs_of}
 use Rattle.awk_grammar.specs.declared.tree.Expr.TheViews.{the_lemmas}
 use Rattle.awk_kinds.proofs.Rows.{row_is_list}
-use Rattle.awk_merging.specs.definitions.Mergeable.{is_of_values, is_array_sum}
+use Rattle.awk_merging.specs.definitions.Mergeable.{makes_value, is_array_sum}
 use Rattle.awk_merging.specs.support.SumsOf.{sums_of}
 use Rattle.awk_merging.proofs.end_actions.+expressions.Goals as goal
 
-pub reads_sums-returns-then-is_of_values : goal.reads_sums-returns-then-is_of_values
-reads_sums-returns-then-is_of_values t c =
+pub reads_sums-returns-then-makes_value : goal.reads_sums-returns-then-makes_value
+reads_sums-returns-then-makes_value t c =
     let is : expr_of c.args.e.now ≡ g.BuiltIn c.in-BuiltIn.function (exprs_of c.in-BuiltIn.arguments.items) =
     search (rules, the_lemmas, row_is_list) in
-    let may : is_of_values c.in-BuiltIn.function (exprs_of c.in-BuiltIn.arguments.items) ≡ true =
-    sym (rw c.deref-in-BuiltIn.ensures.value at c.is_of_values.ensures) ∙ c.if-is_of_values.true in
-    rw (is, may) (rw c.deref-then-is_of_values.ensures.value at c.all_read_sums-then-is_of_values.ensures)
+    let may : makes_value c.in-BuiltIn.function (exprs_of c.in-BuiltIn.arguments.items) ≡ true =
+    sym (rw c.deref-in-BuiltIn.ensures.value at c.makes_value.ensures) ∙ c.if-makes_value.true in
+    rw (is, may) (rw c.deref-then-makes_value.ensures.value at c.all_read_sums-then-makes_value.ensures)
 
-pub reads_sums-returns-else-is_of_values : goal.reads_sums-returns-else-is_of_values
-reads_sums-returns-else-is_of_values t c =
+pub reads_sums-returns-else-makes_value : goal.reads_sums-returns-else-makes_value
+reads_sums-returns-else-makes_value t c =
     let is : expr_of c.args.e.now ≡ g.BuiltIn c.in-BuiltIn.function (exprs_of c.in-BuiltIn.arguments.items) =
     search (rules, the_lemmas, row_is_list) in
-    let may : is_of_values c.in-BuiltIn.function (exprs_of c.in-BuiltIn.arguments.items) ≡ false =
-    sym (rw c.deref-in-BuiltIn.ensures.value at c.is_of_values.ensures) ∙ c.if-is_of_values.false in
-    rw (is, may) c.if-is_of_values.false
+    let may : makes_value c.in-BuiltIn.function (exprs_of c.in-BuiltIn.arguments.items) ≡ false =
+    sym (rw c.deref-in-BuiltIn.ensures.value at c.makes_value.ensures) ∙ c.if-makes_value.false in
+    rw (is, may) c.if-makes_value.false
 
 pub reads_sums-returns-then-is_array_sum : goal.reads_sums-returns-then-is_array_sum
 reads_sums-returns-then-is_array_sum t c =

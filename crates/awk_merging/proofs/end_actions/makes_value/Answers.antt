@@ -3,10 +3,10 @@ use Rattle.std.proofs.lemmas.Bool.Decides.{nat_tests}
 use Rattle.awk_lex.specs.declared.token.BuiltIn.TheVariants as builtin
 use Rattle.awk_grammar.specs.View.{exprs_of}
 use Rattle.awk_grammar.specs.declared.tree.Expr.{Expr}
-use Rattle.awk_merging.specs.definitions.Mergeable.{is_of_values}
-use Rattle.awk_merging.proofs.end_actions.is_of_values.Goals as goal
+use Rattle.awk_merging.specs.definitions.Mergeable.{makes_value}
+use Rattle.awk_merging.proofs.end_actions.makes_value.Goals as goal
 
-has_one : (es : List Expr) → not (length es == 0) ≡ is_of_values builtin.Length (exprs_of es)
+has_one : (es : List Expr) → not (length es == 0) ≡ makes_value builtin.Length (exprs_of es)
 has_one [] = refl
 has_one (e ∷ es) = grind (arith, nat_tests)
 
