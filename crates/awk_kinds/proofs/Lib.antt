@@ -16,3 +16,5 @@ pub mod Rows
 pub mod ProgramRows
 pub mod Adding
 pub mod Defined
+pub mod Slots
+pub mod Copied

@@ -12,7 +12,7 @@ ghost use Rattle.awk_kinds.specs.support.Known.{HoldsArrays};
 ghost use Rattle.awk_kinds.specs.support.Tables.{globals};
 
 use crate::arrays::Arrays;
-use crate::name_table::NameTable;
+use crate::names::Names;
 use crate::parameters::Parameters;
 use crate::special_names::SPECIAL_ARRAYS;
 use crate::uses::ArrayUse;
@@ -24,8 +24,8 @@ use std::marker::Model;
 /// the others follow in the order in which the program first uses them. Functions stand in the order of their definitions.
 #[derive(Drop)]
 pub struct Kinds {
-    arrays: NameTable,
-    functions: NameTable,
+    arrays: Names,
+    functions: Names,
     parameters: Vec<Parameters>,
 }
 
@@ -42,10 +42,10 @@ impl Model for Kinds {
 }
 
 /// The names of special variables.
-fn special_names(alloc: Global, rows: &[&[u8]]) -> Result<NameTable, AllocError>
+fn special_names(alloc: Global, rows: &[&[u8]]) -> Result<Names, AllocError>
     ensures { IfOk result (λ names. names ≡ globals_among [] (globals (map (λ row. row.now) rows.now))) }
 {
-    let mut names = NameTable::new(alloc);
+    let mut names = Names::new(alloc);
     for row in rows {
         names.add(alloc, row)?;
     }
@@ -53,7 +53,7 @@ fn special_names(alloc: Global, rows: &[&[u8]]) -> Result<NameTable, AllocError>
 }
 
 /// The names of the arrays of the whole program.
-fn array_names(alloc: Global, uses: &[ArrayUse], arrays: &Arrays) -> Result<NameTable, AllocError>
+fn array_names(alloc: Global, uses: &[ArrayUse], arrays: &Arrays) -> Result<Names, AllocError>
     ensures { IfOk result (λ names. names ≡ globals_among special_arrays (filter (is_marked arrays.now) (map in_array_use uses.now))) }
 {
     let mut names = special_names(alloc, &SPECIAL_ARRAYS)?;
@@ -80,7 +80,7 @@ impl Kinds {
         ensures { IfOk result (λ kinds. kinds ≡ kinds_of (items_of items.now)) }
     {
         let names = array_names(alloc, uses, arrays)?;
-        let mut functions = NameTable::new(alloc);
+        let mut functions = Names::new(alloc);
         let mut parameters = Vec::new(alloc);
         for item in items {
             if let Item::Function(name, all, _) = item {
@@ -109,11 +109,11 @@ impl Kinds {
         self.arrays.len()
     }
 
-    /// The name of the array of a number.
-    pub fn array_name(&self, number: u32) -> Option<&[u8]>
-        ensures { option_map (λ name. name.now) result ≡ slice_get self.now.arrays number }
+    /// The arrays of the whole program, each at its number.
+    pub fn arrays(&self) -> &Names
+        ensures { result.now ≡ self.now.arrays }
     {
-        self.arrays.get(number)
+        &self.arrays
     }
 
     /// The number of the function of this name.
@@ -130,11 +130,11 @@ impl Kinds {
         self.functions.len()
     }
 
-    /// The name of the function of a number.
-    pub fn function_name(&self, number: u32) -> Option<&[u8]>
-        ensures { option_map (λ name. name.now) result ≡ option_map (λ (f : Signature). f.name) (slice_get self.now.functions number) }
+    /// The functions, each at its number.
+    pub fn functions(&self) -> &Names
+        ensures { result.now ≡ signature_names self.now.functions }
     {
-        self.functions.get(number)
+        &self.functions
     }
 
     /// The parameters of the function of a number.

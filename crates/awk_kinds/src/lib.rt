@@ -10,7 +10,7 @@ mod kinds;
 mod laws;
 mod misuses;
 mod mixed;
-mod name_table;
+mod names;
 mod of_values;
 mod parameters;
 mod placed;
@@ -25,6 +25,7 @@ pub mod variable;
 
 pub use kinds::Kinds;
 pub use laws::{law_of_array_names, law_of_kinds, law_of_refusals};
+pub use names::Names;
 pub use of_values::is_of_values;
 pub use parameters::Parameters;
 pub use refusal::resolve;

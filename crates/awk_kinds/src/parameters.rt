@@ -8,7 +8,7 @@ ghost use Rattle.awk_kinds.specs.definitions.Signatures.{place_of, parameter_nam
 ghost use Rattle.awk_kinds.specs.support.Marked.{marked_formal};
 
 use crate::arrays::Arrays;
-use crate::name_table::NameTable;
+use crate::names::Names;
 use crate::variable::Variable;
 use awk_value::Bytes;
 use std::alloc::{AllocError, Global};
@@ -17,7 +17,7 @@ use std::marker::Model;
 /// The parameters of a function, each at its place, and which of them are arrays.
 #[derive(Drop)]
 pub struct Parameters {
-    names: NameTable,
+    names: Names,
     arrays: Vec<bool>,
 }
 
@@ -44,7 +44,7 @@ impl Parameters {
         requires { has_repeat parameters.now ≡ false }
         ensures { IfOk result (λ p. p ≡ map (marked_formal arrays.now function.now) parameters.now) }
     {
-        let mut names = NameTable::new(alloc);
+        let mut names = Names::new(alloc);
         let mut kinds = Vec::new(alloc);
         for x in parameters {
             let parameter = Variable::Parameter(function.clone()?, x.clone()?);

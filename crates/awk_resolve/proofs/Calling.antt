@@ -6,7 +6,7 @@ use Rattle.awk_value.specs.declared.value.Value.TheVariants as value
 use Rattle.awk_grammar.specs.Tree.{Item}
 use Rattle.awk_grammar.specs.Height.{height_of_block}
 use Rattle.awk_kinds.specs.Names.{has_name}
-use Rattle.awk_resolve.proofs.Slots.{has_name-stands}
+use Rattle.awk_kinds.proofs.Slots.{has_name-stands}
 use Rattle.awk_kinds.specs.definitions.Kinds.{FormalParameter, Definition, definitions_of, function_names_of}
 use Rattle.awk_kinds.specs.definitions.Signatures.{Signature, signature_by, kinds_of}
 use Rattle.awk_kinds.specs.definitions.Fits.{has_repeat}

@@ -7,7 +7,7 @@ use Rattle.awk_value.specs.declared.value.Value.{Value}
 use Rattle.awk_kinds.specs.declared.special.Special.{Special}
 use Rattle.awk_kinds.specs.Variables.{name_of}
 use Rattle.awk_kinds.specs.Names.{IsFront, has_name, with_name}
-use Rattle.awk_resolve.proofs.Slots.{has_name-stands, stands_at}
+use Rattle.awk_kinds.proofs.Slots.{has_name-stands, stands_at}
 use Rattle.awk_kinds.specs.definitions.Kinds.{FormalParameter}
 use Rattle.awk_kinds.specs.definitions.Signatures.{ProgramKinds, place_of, parameter_names}
 use Rattle.awk_semantics.specs.declared.local.Local.{Local}

@@ -4,8 +4,8 @@ ghost use Rattle.std.specs.Prelude.{◌≡◌, suc, ◌<◌, length, IfOk};
 ghost use Rattle.awk_resolve.specs.definitions.Nodes.{CallsFit};
 ghost use Rattle.awk_resolve.specs.support.Builds.{array_parameters_in, Pushes, Opens, Closes, AddsName, AddsEre};
 
-use crate::names::ScalarNames;
 use crate::node::Node;
+use awk_kinds::Names;
 use awk_value::Bytes;
 use std::alloc::{AllocError, Global};
 
@@ -19,7 +19,7 @@ pub struct Builder {
     /// The place of each loop's condition, likewise.
     pub conditions: Vec<u32>,
     /// The scalars of the whole program that a run keeps by name, by their slots.
-    pub names: ScalarNames,
+    pub names: Names,
     /// The texts of the program's EREs.
     pub eres: Vec<Bytes>,
     /// Whether each parameter is an array, of each function of the program.
@@ -96,7 +96,7 @@ impl Builder {
     pub(crate) fn slot_of(&mut self, name: &[u8]) -> Result<u32, AllocError>
         ensures { IfOk result (λ slot. AddsName self.old self.new slot name.now) }
     {
-        self.names.slot_of(self.alloc, name)
+        self.names.add(self.alloc, name)
     }
 
     /// The number of an ERE.

@@ -15,7 +15,6 @@ mod getlines;
 mod heights;
 mod items;
 mod lists;
-pub mod names;
 pub mod node;
 mod operands;
 mod patterns;

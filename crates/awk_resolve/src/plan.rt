@@ -1,8 +1,7 @@
 // What a program is lowered to.
 
-use crate::names::ScalarNames;
 use crate::node::Node;
-use awk_kinds::Kinds;
+use awk_kinds::{Kinds, Names};
 use awk_value::Bytes;
 
 /// A function of a program.
@@ -25,7 +24,7 @@ pub struct Plan {
     /// The place of each loop's condition, or behind the keys of a walk, likewise.
     pub conditions: Vec<u32>,
     /// The scalars of the whole program that a run keeps by name, by their slots.
-    pub names: ScalarNames,
+    pub names: Names,
     /// The texts of the program's EREs, by their numbers.
     pub eres: Vec<Bytes>,
     /// The functions, in the order of their definitions.

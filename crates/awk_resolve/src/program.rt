@@ -13,12 +13,11 @@ ghost use Rattle.awk_resolve.specs.support.Holding.{IsOver, AddsEnd, AddsBody, A
 use crate::builder::{Builder, next_number};
 use crate::heights::block_height;
 use crate::items::has_rule;
-use crate::names::ScalarNames;
 use crate::node::Node;
 use crate::plan::{Function, Plan};
 use crate::scope::Scope;
 use awk_grammar::tree::{Item, Statement, Tree};
-use awk_kinds::{Kinds, Parameters, law_of_refusals};
+use awk_kinds::{Kinds, Names, Parameters, law_of_refusals};
 use awk_lex::refusal::Refusal;
 use std::alloc::{AllocError, Global};
 
@@ -120,7 +119,7 @@ fn lower_program(alloc: Global, items: &[Item], kinds: Kinds) -> Result<Plan, Al
         nodes: Vec::new(alloc),
         heads: Vec::new(alloc),
         conditions: Vec::new(alloc),
-        names: ScalarNames::new(alloc),
+        names: Names::new(alloc),
         eres: Vec::new(alloc),
         array_parameters,
     };

@@ -25,7 +25,7 @@ mod variables;
 
 pub use keys::ElementKey;
 pub use lines::append_value;
-pub use names::{ProgramNames, add_name, array_names, function_names};
+pub use names::ProgramNames;
 pub use passing::Unwanted;
 pub use runtime::Runtime;
 pub use start::Assignment;

@@ -3,16 +3,13 @@
 ghost use Rattle.std.specs.Prelude.{◌≡◌, slice_get, Some, IfSome, IfNone, false, codes, bytes_eq};
 ghost use Rattle.awk_kinds.specs.Names.{has_name, AreDistinct};
 ghost use Rattle.awk_semantics.specs.Inputs.{is_among};
-ghost use Rattle.awk_runtime.specs.support.Naming.{AreOwn, ere_at, names_of};
+ghost use Rattle.awk_runtime.specs.support.Naming.{AreOwn, ere_at};
 
+use awk_kinds::Names;
 use awk_value::Bytes;
-use indexmap::IndexSet;
 use std::marker::Model;
 
-mod collected;
 mod numbers;
-
-pub use collected::{add_name, array_names, function_names};
 
 /// Whether a name is NF, which is counted in the record.
 pub(crate) fn is_field_count(name: &[u8]) -> bool
@@ -25,45 +22,39 @@ pub(crate) fn is_field_count(name: &[u8]) -> bool
 /// program by their numbers, the functions, and the texts between the slashes of its EREs by their numbers.
 #[derive(Drop)]
 pub struct ProgramNames {
-    scalars: IndexSet<Vec<u8>>,
-    arrays: IndexSet<Vec<u8>>,
-    functions: IndexSet<Vec<u8>>,
+    scalars: Names,
+    arrays: Names,
+    functions: Names,
     eres: Vec<Bytes>,
 }
 
 impl Model for ProgramNames {
-    ghost use Rattle.std.specs.Prelude.{map};
     ghost use Rattle.awk_runtime.specs.support.Naming.{Naming, AreOwn};
     ghost use Rattle.awk_kinds.specs.Names.{AreDistinct};
 
     ghost Value = { Naming };
 
     ghost view = { λ n. record {
-      scalars = map (λ k. k.items) n.scalars.keys;
-      arrays = map (λ k. k.items) n.arrays.keys;
-      functions = map (λ k. k.items) n.functions.keys;
+      scalars = n.scalars;
+      arrays = n.arrays;
+      functions = n.functions;
       eres = n.eres.items;
     } };
 
-    ghost invariant = { λ n. AreDistinct (map (λ k. k.items) n.scalars.keys) × AreOwn (map (λ k. k.items) n.scalars.keys) };
+    ghost invariant = { λ n. AreDistinct n.scalars × AreOwn n.scalars };
 }
 
 impl ProgramNames {
     ghost use Rattle.awk_runtime.specs.support.Naming.{Naming};
 
     /// The names of a program: of its variables none is a special one, or NF.
-    pub fn new(
-        scalars: IndexSet<Vec<u8>>,
-        arrays: IndexSet<Vec<u8>>,
-        functions: IndexSet<Vec<u8>>,
-        eres: Vec<Bytes>,
-    ) -> ProgramNames
-        requires distinct { AreDistinct (names_of scalars.keys) }
-        requires own { AreOwn (names_of scalars.keys) }
+    pub fn new(scalars: Names, arrays: Names, functions: Names, eres: Vec<Bytes>) -> ProgramNames
+        requires distinct { AreDistinct scalars }
+        requires own { AreOwn scalars }
         ensures { result ≡ record {
-          scalars = names_of scalars.keys;
-          arrays = names_of arrays.keys;
-          functions = names_of functions.keys;
+          scalars = scalars;
+          arrays = arrays;
+          functions = functions;
           eres = eres.items;
         } }
     {
@@ -89,7 +80,8 @@ impl ProgramNames {
         ensures some { IfSome result (λ slot. slice_get self.now.scalars slot ≡ Some name.now) }
         ensures none { IfNone result (has_name self.now.scalars name.now ≡ false) }
     {
-        self.scalars.get_index_of(name)
+        let slot = self.scalars.find(name)?;
+        Some(slot as usize)
     }
 
     /// The text between the slashes of an ERE, by its number. One that isn't there is empty.
@@ -107,13 +99,13 @@ impl ProgramNames {
     pub fn is_array(&self, name: &[u8]) -> bool
         ensures { result ≡ is_among name.now self.now.arrays }
     {
-        self.arrays.contains(name)
+        self.arrays.has(name)
     }
 
     /// Whether a name is a function's.
     pub fn is_function(&self, name: &[u8]) -> bool
         ensures { result ≡ is_among name.now self.now.functions }
     {
-        self.functions.contains(name)
+        self.functions.has(name)
     }
 }

@@ -27,16 +27,15 @@ impl ProgramNames {
     pub fn array_name(&self, number: usize) -> Option<&[u8]>
         ensures { option_map (λ name. name.now) result ≡ slice_get self.now.arrays number }
     {
-        let name = self.arrays.get_index(number)?;
-        Some(name.as_slice())
+        self.arrays.get(number)
     }
 
     /// The number of an array; of a name that is none, how many arrays there are.
     pub(crate) fn array_number(&self, name: &[u8]) -> usize
         ensures { result ≡ number_in self.now.arrays name.now }
     {
-        match self.arrays.get_index_of(name) {
-            Some(number) => number,
+        match self.arrays.find(name) {
+            Some(number) => number as usize,
             None => self.arrays.len(),
         }
     }

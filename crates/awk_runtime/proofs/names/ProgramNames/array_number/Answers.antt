@@ -7,12 +7,10 @@ use Rattle.awk_runtime.proofs.names.ProgramNames.array_number.Goals as goal
 
 pub returns-in-Some : goal.returns-in-Some
 returns-in-Some c =
-    let keys = c.self.inside.arrays.keys in
-    ap (λ i. unwrap_or i (length keys)) c.in-Some.ensures.index
-    ∙ (number-is c.args.name.now keys ∙ ap (λ (n : Naming). number_in n.arrays c.args.name.now) c.self.view_is)
+    let names = c.self.inside.arrays in
+    ap (λ i. unwrap_or i (length names)) c.in-Some.ensures ∙ (number-is c.args.name.now names ∙ ap (λ (n : Naming). number_in n.arrays c.args.name.now) c.self.view_is)
 
 pub returns-in-None : goal.returns-in-None
 returns-in-None c =
-    let keys = c.self.inside.arrays.keys in
-    c.len.ensures.len ∙ (ap (λ i. unwrap_or i (length keys)) c.in-None.ensures.index
-    ∙ (number-is c.args.name.now keys ∙ ap (λ (n : Naming). number_in n.arrays c.args.name.now) c.self.view_is))
+    let names = c.self.inside.arrays in
+    c.len.ensures.len ∙ (ap (λ i. unwrap_or i (length names)) c.in-None.ensures ∙ (number-is c.args.name.now names ∙ ap (λ (n : Naming). number_in n.arrays c.args.name.now) c.self.view_is))

@@ -1,8 +1,8 @@
 use Rattle.std.proofs.Common.{sym, ap, ◌∙◌}
 use Rattle.awk_semantics.specs.Inputs.{is_among}
 use Rattle.awk_runtime.specs.support.Naming.{Naming}
-use Rattle.awk_runtime.proofs.NameWords.{is_among-keys}
+use Rattle.awk_runtime.proofs.NameWords.{is_among-names}
 use Rattle.awk_runtime.proofs.names.ProgramNames.is_function.Goals as goal
 
 pub returns : goal.returns
-returns c = c.contains.ensures ∙ sym (is_among-keys c.args.name.now c.self.inside.functions.keys) ∙ ap (λ (n : Naming). is_among c.args.name.now n.functions) c.self.view_is
+returns c = c.has.ensures ∙ sym (is_among-names c.args.name.now c.self.inside.functions) ∙ ap (λ (n : Naming). is_among c.args.name.now n.functions) c.self.view_is

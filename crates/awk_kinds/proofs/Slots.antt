@@ -88,3 +88,13 @@ stands_at (x ∷ xs) name i e = by (bytes_eq name x) (place_of xs name) i (bytes
     by false None k is later h = cc
     by false (Some j) zero is later h = cc
     by false (Some j) (suc k) is later h = (let z : j ≡ k = cc in ap (λ l. slice_get xs l) (sym z)) ∙ later j refl
+
+-- a name that is found nowhere isn't there
+pub has_no_place : (names : List (List ℕ)) (name : List ℕ) → place_of names name ≡ None → has_name names name ≡ false
+has_no_place [] name e = refl
+has_no_place (x ∷ xs) name e = by (bytes_eq name x) (place_of xs name) (has_no_place xs name) e
+  where
+    by : (b : Bool) (o : Option ℕ) → (o ≡ None → has_name xs name ≡ false) → (if b then Some 0 else option_map suc o) ≡ None → (b || has_name xs name) ≡ false
+    by true o rest h = absurd (none_or_some (sym h))
+    by false None rest h = rest refl
+    by false (Some i) rest h = absurd (none_or_some (sym h))
