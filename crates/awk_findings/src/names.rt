@@ -4,7 +4,8 @@ use crate::calls::{arguments, finding_at, kind_before, kind_behind, name_of, pla
 use crate::definitions::{Definition, definitions, first_definitions, is_defining, name_at};
 use crate::finding::{Finding, Note, joined};
 use crate::near::NearNames;
-use crate::special::{foreign_advice, is_special, left_out_advice};
+use crate::special::{foreign_advice, left_out_advice};
+use awk_kinds::is_special;
 use awk_lex::refusal::RefusalCode;
 use awk_lex::token::{Kind, Token};
 use awk_lex::words::is_left_out;

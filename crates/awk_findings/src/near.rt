@@ -1,6 +1,7 @@
 // Names that are nearly others.
 
 use crate::special::{CALLED_WORDS, LEADING_WORDS, VALUE_WORDS};
+use awk_kinds::OWN_VARIABLES;
 use indexmap::IndexMap;
 use std::alloc::{AllocError, Global};
 
@@ -86,6 +87,9 @@ impl NearNames {
 
     /// Adds the words that are reserved, and awk's own variables.
     pub(crate) fn add_reserved(&mut self) -> Result<(), AllocError> {
+        for (name, _) in &OWN_VARIABLES {
+            self.add(name)?;
+        }
         self.add_all(&VALUE_WORDS)?;
         self.add_all(&LEADING_WORDS)?;
         self.add_all(&CALLED_WORDS)

@@ -1,28 +1,5 @@
 // The names that have a meaning of their own.
 
-/// Whether a name is one of awk's own variables.
-pub(crate) fn is_special(name: &[u8]) -> bool {
-    matches!(
-        name,
-        b"ARGC"
-            | b"ARGV"
-            | b"CONVFMT"
-            | b"ENVIRON"
-            | b"FILENAME"
-            | b"FNR"
-            | b"FS"
-            | b"NF"
-            | b"NR"
-            | b"OFMT"
-            | b"OFS"
-            | b"ORS"
-            | b"RLENGTH"
-            | b"RS"
-            | b"RSTART"
-            | b"SUBSEP"
-    )
-}
-
 /// What to write instead of a name that is left out.
 pub(crate) fn left_out_advice(name: &[u8]) -> &'static [u8] {
     match name {
@@ -108,27 +85,8 @@ pub(crate) fn word_advice(name: &[u8]) -> &'static [u8] {
     }
 }
 
-/// Words of awk that are a value by themselves: its own variables and the like.
-pub(crate) const VALUE_WORDS: [&[u8]; 18] = [
-    b"ARGC",
-    b"ARGV",
-    b"CONVFMT",
-    b"ENVIRON",
-    b"FILENAME",
-    b"FNR",
-    b"FS",
-    b"NF",
-    b"NR",
-    b"OFMT",
-    b"OFS",
-    b"ORS",
-    b"RLENGTH",
-    b"RS",
-    b"RSTART",
-    b"SUBSEP",
-    b"getline",
-    b"length",
-];
+/// Words of awk that are a value by themselves, besides its own variables.
+pub(crate) const VALUE_WORDS: [&[u8]; 2] = [b"getline", b"length"];
 
 /// Words at which a statement or an item begins.
 pub(crate) const LEADING_WORDS: [&[u8]; 17] = [

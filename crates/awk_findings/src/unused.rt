@@ -6,9 +6,9 @@ use crate::finding::{Finding, joined};
 use crate::names::Names;
 use crate::near::NearNames;
 use crate::special::{
-    CALLED_WORDS, LEADING_WORDS, foreign_variable_advice, is_among, is_foreign, is_special,
-    word_advice,
+    CALLED_WORDS, LEADING_WORDS, foreign_variable_advice, is_among, is_foreign, word_advice,
 };
+use awk_kinds::is_special;
 use awk_lex::token::{BuiltIn, Keyword, Kind, Token};
 use indexmap::{IndexMap, IndexSet};
 use std::alloc::{AllocError, Global};

@@ -7,7 +7,7 @@ use crate::calls::{
 use crate::definitions::{definition_at, is_defining, name_at};
 use crate::finding::{Finding, Note, joined};
 use crate::names::Names;
-use crate::special::is_special;
+use awk_kinds::is_special;
 use awk_lex::token::{BuiltIn, Keyword, Kind, Token};
 use indexmap::IndexMap;
 use std::alloc::{AllocError, Global};

@@ -5,6 +5,7 @@ use Rattle.std.proofs.lemmas.List.{append-nil, get_or_append_left, take_more, ma
 use Rattle.std.proofs.lemmas.List.Elements.{Contains-push, Contains-push_cases, Contains-append_left}
 use Rattle.std.proofs.lemmas.Option.{get_or_from_slice_get}
 use Rattle.indexmap.specs.IndexSet.{insert_key}
+use Rattle.awk_kinds.specs.declared.special.OwnVariable.{OwnVariable}
 use Rattle.awk_kinds.specs.declared.variable.Variable.{Variable}
 use Rattle.awk_kinds.specs.declared.variable.Variable.TheVariants.{Global, Parameter}
 use Rattle.awk_kinds.specs.declared.uses.ArrayUse.{ArrayUse}
@@ -174,9 +175,9 @@ follows_one functions us u f a = record {
 }
 
 -- names of the whole program in turn
-pub follows_name : {old new : Graph} (functions : Functions) (all : List (Bor (List ℕ))) (i : ℕ) (d : Bor (List ℕ)) (x : List ℕ) → i < length all → x ≡ (get_or all i d).now → FollowsUses functions (map (λ (name : Bor (List ℕ)). global_use name.now) (take i all)) old → AddsFirst old new (Global x) → FollowsUses functions (map (λ (name : Bor (List ℕ)). global_use name.now) (take (i + 1) all)) new
+pub follows_name : {old new : Graph} (functions : Functions) (all : List (Bor (List ℕ) × OwnVariable)) (i : ℕ) (d : Bor (List ℕ) × OwnVariable) (x : List ℕ) → i < length all → x ≡ (get_or all i d).0.now → FollowsUses functions (map (λ (row : Bor (List ℕ) × OwnVariable). global_use row.0.now) (take i all)) old → AddsFirst old new (Global x) → FollowsUses functions (map (λ (row : Bor (List ℕ) × OwnVariable). global_use row.0.now) (take (i + 1) all)) new
 follows_name {old} {new} functions all i d x low is f a =
-    let F = λ (name : Bor (List ℕ)). global_use name.now in
+    let F = λ (row : Bor (List ℕ) × OwnVariable). global_use row.0.now in
     let more : map F (take (i + 1) all) ≡ map F (take i all) ++ global_use x ∷ [] =
     ap (map F) (take_more all i d low) ∙ map-append F (take i all) (get_or all i d ∷ []) ∙ ap (λ y. map F (take i all) ++ global_use y ∷ []) (sym is) in
     subst (λ us. FollowsUses functions us new) (sym more) (follows_one functions (map F (take i all)) (global_use x) f a)

@@ -15,6 +15,7 @@ use Rattle.awk_kinds.specs.declared.variable.Variable.{Variable}
 use Rattle.awk_kinds.specs.declared.variable.Variable.TheVariants.{Global, Parameter}
 use Rattle.awk_kinds.specs.declared.uses.ArrayUse.{ArrayUse}
 use Rattle.awk_kinds.specs.declared.arrays.Arrays.{Arrays}
+use Rattle.awk_kinds.specs.declared.special.OwnVariable.{OwnVariable}
 use Rattle.awk_kinds.specs.definitions.Kinds.{in_array_use, globals_among, with_global, arrays_of, parameter_by, definitions_by}
 use Rattle.awk_kinds.specs.definitions.Fits.{Fits, has_repeat, has_refused_parameter, is_function, is_special}
 use Rattle.awk_kinds.specs.definitions.Signatures.{signature_by}
@@ -40,20 +41,23 @@ globals-append : (names : List (List ℕ)) (vs ws : List Variable) → globals_a
 globals-append names [] ws = refl
 globals-append names (v ∷ vs) ws = globals-append (with_global names v) vs ws
 
-rows_step : (rows : List (Bor (List ℕ))) (i : ℕ) (d : Bor (List ℕ)) → i < length rows → globals_among [] (globals (map (λ (r : Bor (List ℕ)). r.now) (take (i + 1) rows))) ≡ with_name (globals_among [] (globals (map (λ (r : Bor (List ℕ)). r.now) (take i rows)))) (get_or rows i d).now
+abbrev Row : Type 0
+Row = Bor (List ℕ) × OwnVariable
+
+rows_step : (rows : List Row) (i : ℕ) (d : Row) → i < length rows → globals_among [] (globals (map (λ (r : Row). r.0.now) (take (i + 1) rows))) ≡ with_name (globals_among [] (globals (map (λ (r : Row). r.0.now) (take i rows)))) (get_or rows i d).0.now
 rows_step rows i d low =
-    let F = λ (r : Bor (List ℕ)). Global r.now in
-    let flat : (rs : List (Bor (List ℕ))) → globals (map (λ (r : Bor (List ℕ)). r.now) rs) ≡ map F rs = twice in
+    let F = λ (r : Row). Global r.0.now in
+    let flat : (rs : List Row) → globals (map (λ (r : Row). r.0.now) rs) ≡ map F rs = twice in
     ap (globals_among []) (flat (take (i + 1) rows) ∙ ap (map F) (take_more rows i d low) ∙ map-append F (take i rows) (get_or rows i d ∷ []))
     ∙ globals-append [] (map F (take i rows)) (F (get_or rows i d) ∷ [])
-    ∙ ap (λ vs. with_name (globals_among [] vs) (get_or rows i d).now) (sym (flat (take i rows)))
+    ∙ ap (λ vs. with_name (globals_among [] vs) (get_or rows i d).0.now) (sym (flat (take i rows)))
   where
-    twice : (rs : List (Bor (List ℕ))) → globals (map (λ (r : Bor (List ℕ)). r.now) rs) ≡ map (λ (r : Bor (List ℕ)). Global r.now) rs
+    twice : (rs : List Row) → globals (map (λ (r : Row). r.0.now) rs) ≡ map (λ (r : Row). Global r.0.now) rs
     twice [] = refl
-    twice (r ∷ rs) = ap (λ l. Global r.now ∷ l) (twice rs)
+    twice (r ∷ rs) = ap (λ l. Global r.0.now ∷ l) (twice rs)
 
-pub row_added : (rows : List (Bor (List ℕ))) (i : ℕ) (d : Bor (List ℕ)) (old new : List (List ℕ)) → i < length rows → new ≡ with_name old (get_or rows i d).now → old ≡ globals_among [] (globals (map (λ (r : Bor (List ℕ)). r.now) (take i rows))) → new ≡ globals_among [] (globals (map (λ (r : Bor (List ℕ)). r.now) (take (i + 1) rows)))
-row_added rows i d old new low is before = is ∙ ap (λ names. with_name names (get_or rows i d).now) before ∙ sym (rows_step rows i d low)
+pub row_added : (rows : List Row) (i : ℕ) (d : Row) (old new : List (List ℕ)) → i < length rows → new ≡ with_name old (get_or rows i d).0.now → old ≡ globals_among [] (globals (map (λ (r : Row). r.0.now) (take i rows))) → new ≡ globals_among [] (globals (map (λ (r : Row). r.0.now) (take (i + 1) rows)))
+row_added rows i d old new low is before = is ∙ ap (λ names. with_name names (get_or rows i d).0.now) before ∙ sym (rows_step rows i d low)
 
 -- the next use
 pub use_step : (names : List (List ℕ)) (M : Variable → Bool) (us : List ArrayUse) (i : ℕ) (u : ArrayUse) → i < length us → u ≡ get_or us i u → globals_among names (filter M (map in_array_use (take (i + 1) us))) ≡ globals_among (globals_among names (filter M (map in_array_use (take i us)))) (cond (M (in_array_use u)) (in_array_use u ∷ []) [])

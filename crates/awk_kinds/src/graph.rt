@@ -5,7 +5,7 @@ ghost use Rattle.awk_kinds.specs.definitions.SpecialNames.{special_arrays};
 ghost use Rattle.awk_kinds.specs.support.Graph.{Numbers, AddsFirst, AddsEdge, AddsUse, FollowsUses, global_use, special_uses};
 
 use crate::functions::Functions;
-use crate::special_names::SPECIAL_ARRAYS;
+use crate::special::{ARRAY_COUNT, OWN_VARIABLES, OwnVariable};
 use crate::uses::ArrayUse;
 use crate::variable::Variable;
 use awk_value::Bytes;
@@ -63,17 +63,21 @@ impl Graph {
         }
     }
 
-    /// These names of the whole program are used as arrays.
-    fn of_names(alloc: Global, names: &[&[u8]], functions: &Functions) -> Result<Graph, AllocError>
-        ensures { IfOk result (FollowsUses functions.now (map (λ name. global_use name.now) names.now)) }
+    /// The variables of the whole program that have these rows are used as arrays.
+    fn of_rows(
+        alloc: Global,
+        rows: &[(&[u8], OwnVariable)],
+        functions: &Functions,
+    ) -> Result<Graph, AllocError>
+        ensures { IfOk result (FollowsUses functions.now (map (λ row. global_use row.0.now) rows.now)) }
     {
         let mut graph = Graph {
             variables: IndexSet::new(alloc),
             first: Vec::new(alloc),
             edges: Vec::new(alloc),
         };
-        for name in names {
-            let v = Variable::Global(Bytes::from_slice(alloc, name)?);
+        for row in rows {
+            let v = Variable::Global(Bytes::from_slice(alloc, row.0)?);
             graph.add_first(&v)?;
         }
         Ok(graph)
@@ -87,7 +91,7 @@ impl Graph {
     ) -> Result<Graph, AllocError>
         ensures { IfOk result (FollowsUses functions.now (special_uses ++ uses.now)) }
     {
-        let mut graph = Graph::of_names(alloc, &SPECIAL_ARRAYS, functions)?;
+        let mut graph = Graph::of_rows(alloc, &OWN_VARIABLES[..ARRAY_COUNT], functions)?;
         for array in uses {
             graph.add(array, functions)?;
         }

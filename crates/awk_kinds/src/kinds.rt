@@ -14,7 +14,7 @@ ghost use Rattle.awk_kinds.specs.support.Tables.{globals};
 use crate::arrays::Arrays;
 use crate::names::Names;
 use crate::parameters::Parameters;
-use crate::special_names::SPECIAL_ARRAYS;
+use crate::special::{ARRAY_COUNT, OWN_VARIABLES, OwnVariable};
 use crate::uses::ArrayUse;
 use awk_grammar::tree::Item;
 use std::alloc::{AllocError, Global};
@@ -42,12 +42,12 @@ impl Model for Kinds {
 }
 
 /// The names of special variables.
-fn special_names(alloc: Global, rows: &[&[u8]]) -> Result<Names, AllocError>
-    ensures { IfOk result (λ names. names ≡ globals_among [] (globals (map (λ row. row.now) rows.now))) }
+fn special_names(alloc: Global, rows: &[(&[u8], OwnVariable)]) -> Result<Names, AllocError>
+    ensures { IfOk result (λ names. names ≡ globals_among [] (globals (map (λ row. row.0.now) rows.now))) }
 {
     let mut names = Names::new(alloc);
     for row in rows {
-        names.add(alloc, row)?;
+        names.add(alloc, row.0)?;
     }
     Ok(names)
 }
@@ -56,7 +56,7 @@ fn special_names(alloc: Global, rows: &[&[u8]]) -> Result<Names, AllocError>
 fn array_names(alloc: Global, uses: &[ArrayUse], arrays: &Arrays) -> Result<Names, AllocError>
     ensures { IfOk result (λ names. names ≡ globals_among special_arrays (filter (is_marked arrays.now) (map in_array_use uses.now))) }
 {
-    let mut names = special_names(alloc, &SPECIAL_ARRAYS)?;
+    let mut names = special_names(alloc, &OWN_VARIABLES[..ARRAY_COUNT])?;
     for array in uses {
         let v = array.variable();
         if arrays.has(v) {

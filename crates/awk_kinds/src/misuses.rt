@@ -9,7 +9,7 @@ ghost use Rattle.awk_kinds.specs.definitions.Fits.{is_special, is_variable_left_
 ghost use Rattle.awk_kinds.specs.support.Misuses.{unknown_call, overfull_call, is_taken, refused_parameters, refused_item, function_variable, as_variable, any_array, any_named, any_variable};
 
 use crate::functions::{Functions, has_repeat};
-use crate::special_names::is_special;
+use crate::special::is_special;
 use crate::uses::{ArrayUse, NameUse, Uses};
 use crate::variable::Variable;
 use awk_grammar::tree::Item;

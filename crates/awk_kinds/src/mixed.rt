@@ -8,18 +8,22 @@ ghost use Rattle.awk_kinds.specs.support.Mixed.{is_marked_global, is_marked_para
 
 use crate::arrays::Arrays;
 use crate::functions::Functions;
-use crate::special_names::SPECIAL_SCALARS;
+use crate::special::{ARRAY_COUNT, OWN_VARIABLES, OwnVariable};
 use crate::uses::{ArrayUse, NameUse, Uses};
 use crate::variable::Variable;
 use awk_value::Bytes;
 use std::alloc::{AllocError, Global};
 
-/// Whether one of these names of the whole program is an array.
-fn any_global_array(alloc: Global, names: &[&[u8]], arrays: &Arrays) -> Result<bool, AllocError>
-    ensures { IfOk result (λ answer. answer ≡ list_any (λ name. is_marked_global arrays.now name.now) names.now) }
+/// Whether one of the variables of the whole program that have these rows is an array.
+fn any_global_array(
+    alloc: Global,
+    rows: &[(&[u8], OwnVariable)],
+    arrays: &Arrays,
+) -> Result<bool, AllocError>
+    ensures { IfOk result (λ answer. answer ≡ list_any (λ row. is_marked_global arrays.now row.0.now) rows.now) }
 {
-    for name in names {
-        let v = Variable::Global(Bytes::from_slice(alloc, name)?);
+    for row in rows {
+        let v = Variable::Global(Bytes::from_slice(alloc, row.0)?);
         if arrays.has(&v) {
             return Ok(true);
         }
@@ -129,7 +133,7 @@ pub(crate) fn mixes_kinds(
 ) -> Result<bool, AllocError>
     ensures { IfOk result (λ answer. answer ≡ mixes functions.now arrays.now uses.now.arrays.items uses.now.names.items) }
 {
-    if any_global_array(alloc, &SPECIAL_SCALARS, arrays)? {
+    if any_global_array(alloc, &OWN_VARIABLES[ARRAY_COUNT..], arrays)? {
         return Ok(true);
     }
     if any_scalar_array(&uses.names, arrays) {

@@ -1,7 +1,6 @@
 // The sums of a program: where its rules add to.
 
-ghost use Rattle.std.specs.Prelude.{◌≡◌, ◌||◌, bytes_eq, IfOk, OnOk};
-ghost use Rattle.std.specs.List.{list_any};
+ghost use Rattle.std.specs.Prelude.{◌≡◌, ◌||◌, IfOk, OnOk};
 ghost use Rattle.awk_grammar.specs.Tree.{For};
 ghost use Rattle.awk_grammar.specs.View as g;
 ghost use Rattle.awk_pieces.specs.definitions.Pieceable.{is_own};
@@ -11,6 +10,7 @@ ghost use Rattle.awk_merging.specs.support.SumsOf.{sum_of, sums_of, is_array, is
 ghost use Rattle.awk_merging.specs.support.WithSums.{with_sum, with_sums};
 
 use awk_grammar::tree::{Expr, ForParts, Item, SimpleStatement, Statement, Tree};
+use awk_kinds::is_special;
 use awk_lex::token::{AssignmentOperator, IncrementOperator};
 use awk_pieces::{is_own, names_set_in_rules};
 use awk_value::Bytes;
@@ -54,39 +54,11 @@ impl Sum {
     }
 }
 
-/// The names that no sum has: those of awk's own variables, and of the derived programs'.
-const TAKEN_NAMES: [&[u8]; 18] = [
-    b"ARGC",
-    b"CONVFMT",
-    b"FILENAME",
-    b"FNR",
-    b"FS",
-    b"NF",
-    b"NR",
-    b"OFMT",
-    b"OFS",
-    b"ORS",
-    b"RLENGTH",
-    b"RS",
-    b"RSTART",
-    b"SUBSEP",
-    b"ARGV",
-    b"ENVIRON",
-    b"merge_what",
-    b"merge_key",
-];
-
-fn is_among(names: &[&[u8]], name: &[u8]) -> bool
-    ensures { result ≡ list_any (λ other. bytes_eq name.now other.now) names.now }
-{
-    names.iter().any(|other| name == *other)
-}
-
-/// Whether the name is one that no sum has.
+/// Whether the name is one that no sum has: of the derived programs, or of awk itself.
 pub(crate) fn is_taken(name: &[u8]) -> bool
     ensures { result ≡ is_taken name.now }
 {
-    is_among(&TAKEN_NAMES, name)
+    name == b"merge_what".as_slice() || name == b"merge_key".as_slice() || is_special(name)
 }
 
 /// Whether one of the sums has this name.

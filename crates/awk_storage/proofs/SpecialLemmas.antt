@@ -1,7 +1,5 @@
 -- What the kept special variables are, name by name.
 use Rattle.std.proofs.Common.{◌≡◌, ◌≢◌, ℕ, ◌<◌, Bool, true, false, cond, List, [], ◌∷◌, map, length, get_or, set, Option, Some, None, unwrap_or, if◌then◌else◌, refl, sym, ap, ◌∙◌, arith, get_or-set_same, get_or-set_other, length-set}
-use Rattle.std.specs.Prelude.{pos}
-use Rattle.std.specs.List.{fold}
 use Rattle.std.specs.Str.{bytes_eq}
 use Rattle.std.specs.Option.{option_map}
 use Rattle.std.specs.Map.{lookup}
@@ -35,7 +33,7 @@ special_at-index_of Rs = refl
 special_at-index_of Rstart = refl
 special_at-index_of Subsep = refl
 
-index_within : (s : Special) → index_of s < 13
+pub index_within : (s : Special) → index_of s < 13
 index_within Argc = omega arith
 index_within Convfmt = omega arith
 index_within Filename = omega arith
@@ -115,15 +113,3 @@ pub value_of-set_counts : (values : List Value) (m n : Value) → length values 
 value_of-set_counts values m n len x =
     value_of-set_special (set values (index_of Nr) m) Fnr n (length-set values (index_of Nr) m ∙ len) x
     ∙ ap (λ (r : Value). if bytes_eq (name_of Fnr) x then n else r) (value_of-set_special values Nr m len x)
-
--- the special variables as the run begins
-
-abbrev pub special_numbers : (arguments : ℕ) → List Value
-special_numbers arguments = Number (pos arguments) ∷ Nothing ∷ Nothing ∷ Number (pos 0) ∷ Nothing ∷ Number (pos 0) ∷ Nothing ∷ Nothing ∷ Nothing ∷ Nothing ∷ Nothing ∷ Nothing ∷ Nothing ∷ []
-
-abbrev pub with_text : List Value → Special × List ℕ → List Value
-with_text values row = set values (index_of row.0) (Text row.1)
-
--- the values, with texts for some
-abbrev pub with_texts : List Value → List (Special × List ℕ) → List Value
-with_texts values rows = fold with_text values rows

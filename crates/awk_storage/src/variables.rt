@@ -3,9 +3,9 @@ ghost use Rattle.std.specs.Result.{is_err};
 ghost use Rattle.std.specs.Prelude.{◌≡◌, ◌≢◌, ◌==◌, ◌≤ℤ◌, ◌<ℤ◌, ◌^◌, ℕ, pos, length, List, [], ◌∷◌, true, false, IfOk, IfErr, IfSome, OnOk, OnErr};
 ghost use Rattle.awk_value.specs.Values.{str_of};
 ghost use Rattle.awk_text.specs.Separators.{separator_of};
-ghost use Rattle.awk_storage.specs.support.SpecialValues.{initial_specials};
+ghost use Rattle.awk_storage.specs.support.SpecialValues.{first_value, initial_specials, with_rows};
 
-use awk_kinds::Special;
+use awk_kinds::{FirstValue, OWN_VARIABLES, OwnVariable, Special};
 use awk_text::{FieldSeparator, TextFault};
 use awk_value::{Bytes, Value, text_of};
 use std::alloc::Global;
@@ -65,16 +65,36 @@ fn set_number(place: &mut Value, number: i128)
 // Records are counted quickly while their counts are less.
 const MANY: i128 = 0x4000_0000_0000_0000;
 
-// The special variables that are texts as the run begins. (POSIX awk, Variables and Special Variables)
-const TEXTS: [(Special, &[u8]); 7] = [
-    (Special::Convfmt, b"%.6g"),
-    (Special::Fs, b" "),
-    (Special::Ofmt, b"%.6g"),
-    (Special::Ofs, b" "),
-    (Special::Ors, b"\n"),
-    (Special::Rs, b"\n"),
-    (Special::Subsep, b"\x1c"),
-];
+// A value as the run begins, where ARGV has so many elements. The only fault is `Memory`.
+fn first_value(alloc: Global, first: FirstValue, arguments: usize) -> Result<Value, TextFault>
+    ensures value { IfOk result (λ value. value ≡ first_value arguments first) }
+    ensures memory { IfErr result (λ e. e ≡ TextFault.Memory) }
+{
+    match first {
+        FirstValue::Nothing => Ok(Value::Nothing),
+        FirstValue::ArgumentCount => Ok(Value::Number(arguments as i128)),
+        FirstValue::Zero => Ok(Value::Number(0)),
+        FirstValue::Text(text) => Ok(Value::Text(Bytes::from_slice(alloc, text)?)),
+    }
+}
+
+// Gives the variables that have these rows their values as the run begins, each at its index. The only fault is `Memory`.
+fn put_first_values(
+    alloc: Global,
+    rows: &[(&[u8], OwnVariable)],
+    arguments: usize,
+    values: &mut [Value; 13],
+) -> Result<(), TextFault>
+    ensures values { OnOk result (values.new ≡ with_rows arguments values.old rows.now) }
+    ensures memory { IfErr result (λ e. e ≡ TextFault.Memory) }
+{
+    for (_, own) in rows {
+        if let OwnVariable::Kept(special, first) = own {
+            values[special.index()] = first_value(alloc, *first, arguments)?;
+        }
+    }
+    Ok(())
+}
 
 // The values of the special variables as the run begins, each at its index.
 fn initial_specials(alloc: Global, arguments: usize) -> Result<[Value; 13], TextFault>
@@ -82,12 +102,12 @@ fn initial_specials(alloc: Global, arguments: usize) -> Result<[Value; 13], Text
     ensures memory { IfErr result (λ e. e ≡ TextFault.Memory) }
 {
     let mut values = [
-        Value::Number(arguments as i128), // ARGC
         Value::Nothing,
         Value::Nothing,
-        Value::Number(0), // FNR
         Value::Nothing,
-        Value::Number(0), // NR
+        Value::Nothing,
+        Value::Nothing,
+        Value::Nothing,
         Value::Nothing,
         Value::Nothing,
         Value::Nothing,
@@ -96,9 +116,7 @@ fn initial_specials(alloc: Global, arguments: usize) -> Result<[Value; 13], Text
         Value::Nothing,
         Value::Nothing,
     ];
-    for (special, text) in &TEXTS {
-        values[special.index()] = Value::Text(Bytes::from_slice(alloc, text)?);
-    }
+    put_first_values(alloc, &OWN_VARIABLES, arguments, &mut values)?;
     Ok(values)
 }
 

@@ -12,6 +12,7 @@ use Rattle.awk_grammar.specs.declared.tree.BinaryOperator.TheVariants.{Infix}
 use Rattle.awk_grammar.specs.declared.tree.PrintForm.TheVariants as form
 use Rattle.awk_grammar.specs.Tree.{Expr, Number, String, Name, Element, Field, BuiltIn, Binary, Assign, Nil, Cons, AnExpr, Bare, Standard, Expression, Print, Next, Exit, Statement, Simple, Block, If, ForIn, Statements, NoMore, Then, Pattern, Single, Item, PatternAction}
 use Rattle.awk_kinds.specs.Names.{has_name}
+use Rattle.awk_kinds.specs.SpecialNames.{special_arrays, special_scalars}
 use Rattle.awk_semantics.specs.definitions.State.{State}
 use Rattle.awk_semantics.specs.definitions.Primitives.{number_in, array_in}
 use Rattle.awk_merging.specs.definitions.Gathering.{Table}
@@ -113,9 +114,7 @@ alone (Some n) = ([], n) ∷ []
 
 -- the names that no sum has: those of awk's own variables, and of the derived programs'
 abbrev pub taken_names : List (List ℕ)
-taken_names =
-    codes "ARGC" ∷ codes "CONVFMT" ∷ codes "FILENAME" ∷ codes "FNR" ∷ codes "FS" ∷ codes "NF" ∷ codes "NR" ∷ codes "OFMT" ∷ codes "OFS" ∷ codes "ORS"
-    ∷ codes "RLENGTH" ∷ codes "RS" ∷ codes "RSTART" ∷ codes "SUBSEP" ∷ codes "ARGV" ∷ codes "ENVIRON" ∷ merge_what ∷ merge_key ∷ []
+taken_names = merge_what ∷ merge_key ∷ (special_arrays ++ special_scalars)
 
 abbrev pub is_taken : List ℕ → Bool
 is_taken x = has_name taken_names x

@@ -4,4 +4,4 @@ use Rattle.awk_kinds.specs.support.Tables.{globals}
 use Rattle.awk_kinds.proofs.kinds.special_names.Given as goal
 
 abbrev pub invariant-loop-row : goal.invariant-loop-row
-invariant-loop-row l = l.names ≡ globals_among [] (globals (map (λ row. row.now) (take l.row-index l.rows)))
+invariant-loop-row l = l.names ≡ globals_among [] (globals (map (λ row. row.0.now) (take l.row-index l.rows)))

@@ -3,5 +3,5 @@ use Rattle.std.specs.List.{list_any}
 use Rattle.awk_kinds.specs.support.Mixed.{is_marked_global}
 use Rattle.awk_kinds.proofs.mixed.any_global_array.Given as goal
 
-abbrev pub invariant-loop-name : goal.invariant-loop-name
-invariant-loop-name l = list_any (λ name. is_marked_global l.arrays name.now) (drop l.name-index l.names) ≡ list_any (λ name. is_marked_global l.arrays name.now) l.names
+abbrev pub invariant-loop-row : goal.invariant-loop-row
+invariant-loop-row l = list_any (λ row. is_marked_global l.arrays row.0.now) (drop l.row-index l.rows) ≡ list_any (λ row. is_marked_global l.arrays row.0.now) l.rows
