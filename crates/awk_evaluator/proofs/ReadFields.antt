@@ -24,7 +24,7 @@ use Rattle.awk_resolve.specs.declared.node.Operand.{Operand}
 use Rattle.awk_resolve.specs.declared.node.ValueNode.{ValueNode}
 use Rattle.awk_resolve.specs.declared.node.ValueNode.TheVariants as v
 use Rattle.awk_resolve.specs.Nodes.{Tables, popped, value_of, assign_variable}
-use Rattle.awk_functions.specs.definitions.Matched.{matched}
+use Rattle.awk_functions.specs.support.Matched.{matched}
 use Rattle.awk_functions.specs.support.Numbers.{IsOfNumbers}
 use Rattle.awk_functions.proofs.Orders.{related_as}
 use Rattle.awk_runtime.specs.declared.runtime.Runtime.{Runtime}

@@ -18,7 +18,7 @@ use Rattle.awk_semantics.specs.Operators.{pattern_or_fault, pattern_in}
 use Rattle.awk_semantics.specs.Results.{sort_of, YieldsBy, IsWantOfMemory}
 use Rattle.awk_semantics.specs.Texts.{find_from, exchanged, ere_separator}
 use Rattle.awk_functions.specs.declared.found.Exchanged.{Exchanged}
-use Rattle.awk_functions.specs.definitions.Matched.{matched, HasNoMatchUpTo, found, some_exchanged, exchanged_by, split_by}
+use Rattle.awk_functions.specs.support.Matched.{matched, HasNoMatchUpTo, found, some_exchanged, exchanged_by, split_by}
 use Rattle.awk_functions.specs.support.Compiled.{MeansOf}
 use Rattle.awk_functions.specs.support.Written.{Writes}
 

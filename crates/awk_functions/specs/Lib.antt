@@ -1,7 +1,6 @@
-pub mod definitions
 pub mod support
-pub use Rattle.awk_functions.specs.definitions.Matched
-pub use Rattle.awk_functions.specs.definitions.Spelling
+pub use Rattle.awk_functions.specs.support.Matched
+pub use Rattle.awk_functions.specs.support.Spelling
 pub use Rattle.awk_functions.specs.support.Compiled
 pub use Rattle.awk_functions.specs.support.Kept
 pub use Rattle.awk_functions.specs.support.Numbers

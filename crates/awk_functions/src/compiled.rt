@@ -7,7 +7,7 @@ ghost use Rattle.awk_text.specs.Pieces.{stretches_at, AreSpansOf, IsSpanOf};
 ghost use Rattle.awk_semantics.specs.Operators.{pattern_in};
 ghost use Rattle.awk_semantics.specs.Results.{Yields};
 ghost use Rattle.awk_semantics.specs.Texts.{ere_separator};
-ghost use Rattle.awk_functions.specs.definitions.Matched.{matched, HasNoMatchUpTo, found, exchanged_by, split_by};
+ghost use Rattle.awk_functions.specs.support.Matched.{matched, HasNoMatchUpTo, found, exchanged_by, split_by};
 ghost use Rattle.awk_functions.specs.support.Compiled.{MeansOf, ReadsFor};
 ghost use Rattle.awk_functions.specs.support.Written.{Writes};
 

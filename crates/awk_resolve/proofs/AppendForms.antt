@@ -16,7 +16,7 @@ use Rattle.awk_semantics.specs.definitions.Semantics.{Functions, eval, place_of}
 use Rattle.awk_semantics.proofs.KeepsForms.{keeps_read_name, keeps_eval}
 use Rattle.awk_storage.specs.declared.position.Variable.{Variable}
 use Rattle.awk_storage.specs.declared.position.Place.TheVariants as place
-use Rattle.awk_storage.specs.definitions.Positions.{assign_by_at}
+use Rattle.awk_storage.specs.support.Positions.{assign_by_at}
 use Rattle.awk_resolve.specs.declared.builder.Builder.{Builder}
 use Rattle.awk_resolve.specs.declared.node.ValueNode.TheVariants as v
 use Rattle.awk_resolve.specs.declared.node.Node.TheVariants as n

@@ -20,7 +20,7 @@ use Rattle.awk_storage.specs.declared.position.Place.TheVariants as place
 use Rattle.awk_resolve.specs.declared.builder.Builder.{Builder}
 use Rattle.awk_resolve.specs.declared.builder.Exits.{Exits}
 use Rattle.awk_resolve.specs.declared.node.Node.TheVariants as n
-use Rattle.awk_resolve.specs.definitions.Nodes.{append_to}
+use Rattle.awk_resolve.specs.support.Nodes.{append_to}
 use Rattle.awk_resolve.specs.support.Appends.{begins_with, is_append}
 use Rattle.awk_resolve.specs.support.Builds.{Grows, Pushes, IsIn, Program, EvaluateAll, Execute, Builds, FindsVariable, IsVariableOf, IsAt, Stands}
 use Rattle.awk_resolve.specs.support.Parts.{with_last, parts_of, parts_behind}

@@ -22,7 +22,7 @@ use Rattle.awk_storage.specs.declared.position.Variable.{Variable}
 use Rattle.awk_storage.specs.declared.position.Variable.TheVariants as variable
 use Rattle.awk_storage.specs.declared.position.Place.{Place}
 use Rattle.awk_storage.specs.declared.position.Place.TheVariants as place
-use Rattle.awk_storage.specs.definitions.Positions.{read_variable, read_slot, read_local, read_at, assign_by_at}
+use Rattle.awk_storage.specs.support.Positions.{read_variable, read_slot, read_local, read_at, assign_by_at}
 use Rattle.awk_resolve.specs.declared.builder.Builder.{Builder}
 use Rattle.awk_resolve.specs.declared.builder.Exits.{Exits}
 use Rattle.awk_resolve.specs.declared.node.Operand.{Operand}
@@ -32,7 +32,7 @@ use Rattle.awk_resolve.specs.declared.node.Key.TheVariants as key
 use Rattle.awk_resolve.specs.declared.node.Target.{Target as NodeTarget}
 use Rattle.awk_resolve.specs.declared.node.Target.TheVariants as target
 use Rattle.awk_resolve.specs.declared.node.Node.TheVariants as n
-use Rattle.awk_resolve.specs.definitions.Nodes.{operand_value, operand_values, key_value, append_operands_at, append_operands}
+use Rattle.awk_resolve.specs.support.Nodes.{operand_value, operand_values, key_value, append_operands_at, append_operands}
 use Rattle.awk_resolve.specs.support.Builds.{Grows, Pushes, Extends, IsIn, Program, Execute, key_value as subscripts_value, Builds, Stands, IsAt, IsOperandOf, AreOperandsOf, FindsAnOperand, FindsEachOperand}
 use Rattle.awk_resolve.specs.support.Parts.{is_concatenation, with_last, parts_of, parts_behind}
 use Rattle.awk_resolve.specs.support.Targets.{first_part, IsKeyOf, IsTargetOf, FindsATarget}

@@ -11,7 +11,7 @@ use Rattle.awk_semantics.specs.definitions.Semantics.{choose, eval}
 use Rattle.awk_semantics.proofs.KeepsForms.{keeps_eval}
 use Rattle.awk_resolve.specs.declared.builder.Builder.{Builder}
 use Rattle.awk_resolve.specs.declared.node.Node.{Node}
-use Rattle.awk_resolve.specs.definitions.Nodes.{Cont, made, AreBelow, IsOrdered, CallsFit, AllCallsFit}
+use Rattle.awk_resolve.specs.support.Nodes.{Cont, made, AreBelow, IsOrdered, CallsFit, AllCallsFit}
 use Rattle.awk_resolve.specs.support.Builds.{array_parameters_in, AreScalars, Grows, Pushes, Opens, Closes, Extends, IsIn, Program, Part, Evaluate, does, place_in, turns_in, Places, Builds, Stands}
 use Rattle.awk_resolve.proofs.Calculus.{later_in}
 use Rattle.awk_resolve.proofs.Listed.{placed_behind}

@@ -19,14 +19,14 @@ use Rattle.awk_semantics.specs.definitions.Semantics.{Functions, eval, place_of,
 use Rattle.awk_semantics.proofs.Keeping.{keeps_lift}
 use Rattle.awk_semantics.proofs.KeepsForms.{keeps_eval, keeps_field_separator}
 use Rattle.awk_storage.specs.declared.position.Array.{Array}
-use Rattle.awk_storage.specs.definitions.Positions.{number_at}
-use Rattle.awk_storage.specs.definitions.Forms.{fill_at, match_in, split_with}
+use Rattle.awk_storage.specs.support.Positions.{number_at}
+use Rattle.awk_storage.specs.support.Forms.{fill_at, match_in, split_with}
 use Rattle.awk_resolve.specs.declared.node.OutsideCall.TheVariants as outside
 use Rattle.awk_resolve.specs.declared.builder.Builder.{Builder}
 use Rattle.awk_resolve.specs.declared.node.ValueNode.TheVariants as v
 use Rattle.awk_resolve.specs.declared.node.SplitBy.TheVariants as by
 use Rattle.awk_resolve.specs.declared.node.Node.TheVariants as n
-use Rattle.awk_resolve.specs.definitions.Nodes.{Tables, taken, value_of, popped}
+use Rattle.awk_resolve.specs.support.Nodes.{Tables, taken, value_of, popped}
 use Rattle.awk_resolve.specs.support.Builds.{Pushes, IsIn, Program, Evaluate, EvaluateAll, EvaluateUnlessEre, IsArrayOf, NamesArray, Builds, Stands}
 use Rattle.awk_resolve.specs.support.Operands.{FindsPattern, split_by, takes_one, strict_node}
 use Rattle.awk_resolve.specs.support.Calls.{name_in}

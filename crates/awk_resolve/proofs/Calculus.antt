@@ -7,9 +7,9 @@ use Rattle.awk_semantics.specs.declared.local.Local.{Local}
 use Rattle.awk_semantics.specs.declared.local.Local.TheVariants as local
 use Rattle.awk_semantics.specs.definitions.State.{Effect, Frame, State, Run, Out, go_on, ◌>>=◌, lift}
 use Rattle.awk_semantics.specs.support.Keeps.{FrameScope, Scope, kind_of, parameter_of, frame_scope, scope_of, Keeps}
-use Rattle.awk_storage.specs.definitions.Positions.{newest_locals}
-use Rattle.awk_resolve.specs.definitions.Nodes.{Tables}
-use Rattle.awk_resolve.specs.definitions.States.{is_array_local, IsIn}
+use Rattle.awk_storage.specs.support.Positions.{newest_locals}
+use Rattle.awk_resolve.specs.support.Nodes.{Tables}
+use Rattle.awk_resolve.specs.support.States.{is_array_local, IsIn}
 
 -- with more effects before it
 abbrev behind_effects : {A : Type 0} → List Effect → Out A → Out A

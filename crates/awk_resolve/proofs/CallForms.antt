@@ -22,7 +22,7 @@ use Rattle.awk_resolve.specs.declared.node.ArgumentForm.{ArgumentForm}
 use Rattle.awk_resolve.specs.declared.node.ArgumentForm.TheVariants as form
 use Rattle.awk_resolve.specs.declared.node.ValueNode.TheVariants as v
 use Rattle.awk_resolve.specs.declared.node.Node.TheVariants as n
-use Rattle.awk_resolve.specs.definitions.Nodes.{Cont, function_at, taken, locals_by, values_among, given_by, call_at, is_array_form, FormsFit, CallFits}
+use Rattle.awk_resolve.specs.support.Nodes.{Cont, function_at, taken, locals_by, values_among, given_by, call_at, is_array_form, FormsFit, CallFits}
 use Rattle.awk_resolve.specs.support.Builds.{arrays_among, array_parameters_in, Pushes, IsIn, Program, Evaluate, EvaluateArguments, with_argument, with_arguments, place_in, Builds, Stands}
 use Rattle.awk_resolve.specs.support.Scopes.{parameters_of}
 use Rattle.awk_resolve.specs.support.Calls.{is_array_at, name_in, role_by, roles_from, IsFormOf, AreForms}

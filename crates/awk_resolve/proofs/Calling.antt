@@ -17,14 +17,14 @@ use Rattle.awk_semantics.specs.definitions.Primitives.{bound, enter, leave}
 use Rattle.awk_semantics.specs.definitions.Semantics.{exec_all}
 use Rattle.awk_semantics.specs.definitions.Calls.{definition_of, role_of, parameter_roles, body_height, returned, call_by, call_within, functions_within}
 use Rattle.awk_semantics.proofs.KeepsForms.{law_of_keeping}
-use Rattle.awk_storage.specs.definitions.Positions.{newest_locals}
+use Rattle.awk_storage.specs.support.Positions.{newest_locals}
 use Rattle.awk_resolve.specs.declared.plan.Function.{Function as PlannedFunction}
 use Rattle.awk_resolve.specs.declared.plan.Plan.{Plan}
-use Rattle.awk_resolve.specs.definitions.Nodes.{Tables, local_by, behind_form, locals_by, is_array_form, FormsFit, cont_at}
+use Rattle.awk_resolve.specs.support.Nodes.{Tables, local_by, behind_form, locals_by, is_array_form, FormsFit, cont_at}
 use Rattle.awk_resolve.specs.declared.node.ArgumentForm.{ArgumentForm}
 use Rattle.awk_resolve.specs.declared.node.ArgumentForm.TheVariants as form
-use Rattle.awk_resolve.specs.definitions.Plans.{Meaning, IsFunction, AreFunctions, tables_of, IsPlanOf}
-use Rattle.awk_resolve.specs.definitions.States.{is_array_local, LocalsFit, IsIn, AreFor}
+use Rattle.awk_resolve.specs.support.Plans.{Meaning, IsFunction, AreFunctions, tables_of, IsPlanOf}
+use Rattle.awk_resolve.specs.support.States.{is_array_local, LocalsFit, IsIn, AreFor}
 use Rattle.awk_resolve.specs.support.Builds.{arrays_among}
 use Rattle.awk_resolve.proofs.Calculus.{assoc_at, later_same, first_same, given}
 

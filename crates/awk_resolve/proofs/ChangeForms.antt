@@ -24,7 +24,7 @@ use Rattle.awk_resolve.specs.declared.node.Exchange.{Exchange}
 use Rattle.awk_resolve.specs.declared.node.Operand.{Operand}
 use Rattle.awk_resolve.specs.declared.node.Operand.TheVariants as operand
 use Rattle.awk_resolve.specs.declared.node.Target.{Target}
-use Rattle.awk_resolve.specs.definitions.Nodes.{assign_target, raise_target, substitute_in}
+use Rattle.awk_resolve.specs.support.Nodes.{assign_target, raise_target, substitute_in}
 use Rattle.awk_resolve.specs.support.Builds.{Grows, Pushes, Extends, IsIn, Program, Evaluate, EvaluateOperand, Execute, leave_by, place_in, Places, Builds, Stands, ExitsStand, FindsAnOperand, FindsPlace}
 use Rattle.awk_resolve.specs.declared.scope.Scope.{Scope}
 use Rattle.awk_resolve.specs.support.Exchanges.{FindsAnExchange}

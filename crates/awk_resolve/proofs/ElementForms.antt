@@ -12,8 +12,8 @@ use Rattle.awk_semantics.specs.definitions.Primitives.{has_element}
 use Rattle.awk_semantics.specs.definitions.Semantics.{choose, eval}
 use Rattle.awk_semantics.proofs.KeepsForms.{keeps_eval, keeps_key_of}
 use Rattle.awk_storage.specs.declared.position.Array.{Array}
-use Rattle.awk_storage.specs.definitions.Positions.{read_element_of}
-use Rattle.awk_storage.specs.definitions.Forms.{contains_at}
+use Rattle.awk_storage.specs.support.Positions.{read_element_of}
+use Rattle.awk_storage.specs.support.Forms.{contains_at}
 use Rattle.awk_resolve.specs.declared.builder.Builder.{Builder}
 use Rattle.awk_resolve.specs.declared.node.Operand.{Operand}
 use Rattle.awk_resolve.specs.declared.node.Key.{Key}
@@ -23,7 +23,7 @@ use Rattle.awk_resolve.specs.declared.node.Tested.{Tested}
 use Rattle.awk_resolve.specs.declared.node.Tested.TheVariants as asks
 use Rattle.awk_resolve.specs.declared.node.ValueNode.TheVariants as v
 use Rattle.awk_resolve.specs.declared.node.Node.TheVariants as n
-use Rattle.awk_resolve.specs.definitions.Nodes.{operand_value, raise_target, asked, asked_operands}
+use Rattle.awk_resolve.specs.support.Nodes.{operand_value, raise_target, asked, asked_operands}
 use Rattle.awk_resolve.specs.support.Builds.{Grows, Pushes, Extends, IsIn, Program, Evaluate, Decide, place_in, Builds, IsArrayOf, FindsAnOperand, Stands}
 use Rattle.awk_resolve.specs.support.Targets.{FindsAKey, FindsATarget}
 use Rattle.awk_resolve.proofs.Calculus.{assoc_at, later_same, later_in, first_same, given}

@@ -5,8 +5,8 @@ use Rattle.awk_semantics.specs.definitions.State.{State}
 use Rattle.awk_semantics.specs.definitions.Primitives.{array_number, read_element_at, store_element_at, has_element_at, delete_element_at, clear_array_at, array_length_at, keys_at, fill_array_at, read_element, store_element, has_element, delete_element, clear_array, array_length, keys_in, fill_array}
 use Rattle.awk_semantics.specs.definitions.BuiltIns.{count_value, count_elements}
 use Rattle.awk_storage.specs.declared.position.Array.{Array}
-use Rattle.awk_storage.specs.definitions.Positions.{number_at, read_element_of, store_element_of}
-use Rattle.awk_storage.specs.definitions.Forms.{contains_at, delete_at, clear_at, count_elements_at, keys_of_array, fill_at}
+use Rattle.awk_storage.specs.support.Positions.{number_at, read_element_of, store_element_of}
+use Rattle.awk_storage.specs.support.Forms.{contains_at, delete_at, clear_at, count_elements_at, keys_of_array, fill_at}
 use Rattle.awk_resolve.proofs.Calculus.{first_same}
 
 module _ (a : Array) (x : List ℕ) (s : State) (is : array_number s x ≡ number_at a s) where

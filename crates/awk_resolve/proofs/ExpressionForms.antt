@@ -21,13 +21,13 @@ use Rattle.awk_semantics.proofs.KeepsForms.{keeps_eval, keeps_key_of}
 use Rattle.awk_storage.specs.declared.position.Variable.{Variable}
 use Rattle.awk_storage.specs.declared.position.Array.{Array}
 use Rattle.awk_storage.specs.declared.position.Place.{Place}
-use Rattle.awk_storage.specs.definitions.Positions.{read_element_of}
-use Rattle.awk_storage.specs.definitions.Forms.{contains_at}
+use Rattle.awk_storage.specs.support.Positions.{read_element_of}
+use Rattle.awk_storage.specs.support.Forms.{contains_at}
 use Rattle.awk_resolve.specs.declared.builder.Builder.{Builder}
 use Rattle.awk_resolve.specs.declared.node.Operand.TheVariants as operand
 use Rattle.awk_resolve.specs.declared.node.ValueNode.TheVariants as v
 use Rattle.awk_resolve.specs.declared.node.Node.TheVariants as n
-use Rattle.awk_resolve.specs.definitions.Nodes.{operands, operated, ere_at, value_of}
+use Rattle.awk_resolve.specs.support.Nodes.{operands, operated, ere_at, value_of}
 use Rattle.awk_resolve.specs.support.Builds.{AreScalars, Grows, Pushes, AddsEre, Extends, Program, Evaluate, EvaluateKey, EvaluateOperand, Builds, FindsVariable, IsArrayOf, FindsPlace, Stands}
 use Rattle.awk_resolve.specs.support.Operands.{is_and, is_or, matching_operator, PushesEre}
 use Rattle.awk_resolve.proofs.Calculus.{later_in, first_same}

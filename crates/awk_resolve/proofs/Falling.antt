@@ -32,8 +32,8 @@ use Rattle.awk_storage.specs.declared.position.Variable.{Variable}
 use Rattle.awk_storage.specs.declared.position.Variable.TheVariants as variable
 use Rattle.awk_storage.specs.declared.position.Place.{Place}
 use Rattle.awk_storage.specs.declared.position.Place.TheVariants as place
-use Rattle.awk_storage.specs.definitions.Positions.{newest_locals, with_local_at, read_local, put_local, read_slot, put_slot, number_at, read_element_of, store_element_of, read_variable, put_variable, read_at, store_at, assign_at, assign_by_at, post_increment_at}
-use Rattle.awk_storage.specs.definitions.Forms.{contains_at, delete_at, clear_at, count_elements_at, keys_of_array, fill_at, match_in, split_with, assign_exchange_at, substitute_at, receive_at, receive_main_at, main_getline_at, receive_named_at, named_getline_at}
+use Rattle.awk_storage.specs.support.Positions.{newest_locals, with_local_at, read_local, put_local, read_slot, put_slot, number_at, read_element_of, store_element_of, read_variable, put_variable, read_at, store_at, assign_at, assign_by_at, post_increment_at}
+use Rattle.awk_storage.specs.support.Forms.{contains_at, delete_at, clear_at, count_elements_at, keys_of_array, fill_at, match_in, split_with, assign_exchange_at, substitute_at, receive_at, receive_main_at, main_getline_at, receive_named_at, named_getline_at}
 use Rattle.awk_resolve.specs.declared.node.OutsideCall.{OutsideCall}
 use Rattle.awk_resolve.specs.declared.node.OutsideCall.TheVariants as outside
 use Rattle.awk_resolve.specs.declared.node.ArgumentForm.{ArgumentForm}
@@ -54,7 +54,7 @@ use Rattle.awk_resolve.specs.declared.node.ValueNode.{ValueNode}
 use Rattle.awk_resolve.specs.declared.node.ValueNode.TheVariants as v
 use Rattle.awk_resolve.specs.declared.node.EffectNode.{EffectNode}
 use Rattle.awk_resolve.specs.declared.node.EffectNode.TheVariants as e
-use Rattle.awk_resolve.specs.definitions.Nodes.{operand_value, operated_with, operated_on, operand_values, key_value, assign_variable, append_to, append_operands_at, append_operands, append_by_step, print_by_step, assign_target, raise_target, update, increment, Tables, first, second, taken, given_by, call_at, substitute_by, substitute, substitute_in, getline_by, value_of, asked, target_by, effect_of, outside_value}
+use Rattle.awk_resolve.specs.support.Nodes.{operand_value, operated_with, operated_on, operand_values, key_value, assign_variable, append_to, append_operands_at, append_operands, append_by_step, print_by_step, assign_target, raise_target, update, increment, Tables, first, second, taken, given_by, call_at, substitute_by, substitute, substitute_in, getline_by, value_of, asked, target_by, effect_of, outside_value}
 
 pub record Falls {A : Type 0} (m : Run A) : Type 0 where
   pub falls : (s : State) → (m s).state.steps ≤ s.steps

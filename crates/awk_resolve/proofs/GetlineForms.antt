@@ -13,12 +13,12 @@ use Rattle.awk_semantics.specs.definitions.Semantics.{eval, place_of, optional_p
 use Rattle.awk_semantics.proofs.KeepsForms.{keeps_eval}
 use Rattle.awk_storage.specs.declared.position.Place.{Place}
 use Rattle.awk_storage.specs.declared.position.Place.TheVariants as place
-use Rattle.awk_storage.specs.definitions.Forms.{receive_at, named_getline_at}
+use Rattle.awk_storage.specs.support.Forms.{receive_at, named_getline_at}
 use Rattle.awk_resolve.specs.declared.builder.Builder.{Builder}
 use Rattle.awk_resolve.specs.declared.node.Source.TheVariants as source
 use Rattle.awk_resolve.specs.declared.node.ValueNode.TheVariants as v
 use Rattle.awk_resolve.specs.declared.node.Node.TheVariants as n
-use Rattle.awk_resolve.specs.definitions.Nodes.{first, operands}
+use Rattle.awk_resolve.specs.support.Nodes.{first, operands}
 use Rattle.awk_resolve.specs.support.Builds.{Pushes, IsIn, Program, Evaluate, EvaluateOperand, EvaluateOptional, EvaluateOptionalOperand, FindsOptionalPlace, Builds, Stands}
 use Rattle.awk_resolve.specs.support.Operands.{source_of}
 use Rattle.awk_resolve.proofs.Calculus.{assoc_at, later_same, later_in, given}

@@ -14,14 +14,14 @@ use Rattle.awk_semantics.specs.definitions.Primitives.{number_of, read_name, rea
 use Rattle.awk_semantics.specs.definitions.Semantics.{eval}
 use Rattle.awk_semantics.proofs.KeepsForms.{keeps_eval}
 use Rattle.awk_storage.specs.declared.position.Variable.{Variable}
-use Rattle.awk_storage.specs.definitions.Positions.{read_variable}
+use Rattle.awk_storage.specs.support.Positions.{read_variable}
 use Rattle.awk_resolve.specs.declared.builder.Builder.{Builder}
 use Rattle.awk_resolve.specs.declared.node.Operand.{Operand}
 use Rattle.awk_resolve.specs.declared.node.Operand.TheVariants as operand
 use Rattle.awk_resolve.specs.declared.node.ValueNode.TheVariants as v
 use Rattle.awk_resolve.specs.declared.node.Node.{Node}
 use Rattle.awk_resolve.specs.declared.node.Node.TheVariants as n
-use Rattle.awk_resolve.specs.definitions.Nodes.{operand_value, operated_with, operated_on, operated, ere_at, value_of}
+use Rattle.awk_resolve.specs.support.Nodes.{operand_value, operated_with, operated_on, operated, ere_at, value_of}
 use Rattle.awk_resolve.specs.support.Builds.{Grows, Pushes, AddsEre, Extends, IsIn, Program, Evaluate, Decide, Builds, FindsVariable, IsOperandOf, FindsAnOperand, Stands}
 use Rattle.awk_resolve.specs.support.Operands.{is_and, is_or, matching_operator, is_strict}
 use Rattle.awk_resolve.proofs.Calculus.{later_same, later_in, first_same, given}

@@ -23,7 +23,7 @@ use Rattle.awk_resolve.specs.declared.builder.Builder.{Builder}
 use Rattle.awk_resolve.specs.declared.node.Tested.TheVariants as asks
 use Rattle.awk_resolve.specs.declared.node.Node.TheVariants as n
 use Rattle.awk_resolve.specs.declared.node.EffectNode.TheVariants as e
-use Rattle.awk_resolve.specs.definitions.Plans.{Meaning, begin_run, rules_run, end_run}
+use Rattle.awk_resolve.specs.support.Plans.{Meaning, begin_run, rules_run, end_run}
 use Rattle.awk_resolve.specs.support.Builds.{Pushes, Extends, IsIn, EvaluateAll, Decide, Execute, ExecuteAll, leave_by, place_in, Builds, Stands}
 use Rattle.awk_resolve.specs.support.Holding.{IsOver, IsAction, AddsPlace, Passes, Selects}
 use Rattle.awk_resolve.proofs.Calculus.{assoc_at, given, later_same, later_in}

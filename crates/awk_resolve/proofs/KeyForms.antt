@@ -15,14 +15,14 @@ use Rattle.awk_semantics.specs.definitions.Semantics.{Functions, eval, place_of,
 use Rattle.awk_semantics.proofs.KeepsForms.{keeps_eval}
 use Rattle.awk_storage.specs.declared.position.Place.{Place}
 use Rattle.awk_storage.specs.declared.position.Place.TheVariants as place
-use Rattle.awk_storage.specs.definitions.Positions.{assign_by_at, post_increment_at}
+use Rattle.awk_storage.specs.support.Positions.{assign_by_at, post_increment_at}
 use Rattle.awk_resolve.specs.declared.builder.Builder.{Builder}
 use Rattle.awk_resolve.specs.declared.node.Operand.{Operand}
 use Rattle.awk_resolve.specs.declared.node.Key.{Key}
 use Rattle.awk_resolve.specs.declared.node.Key.TheVariants as key
 use Rattle.awk_resolve.specs.declared.node.Target.{Target as NodeTarget}
 use Rattle.awk_resolve.specs.declared.node.Target.TheVariants as target
-use Rattle.awk_resolve.specs.definitions.Nodes.{operand_value, key_value, first, assign_target, raise_target}
+use Rattle.awk_resolve.specs.support.Nodes.{operand_value, key_value, first, assign_target, raise_target}
 use Rattle.awk_resolve.specs.support.Builds.{Grows, IsIn, Program, key_value as subscripts_value, IsAt, IsOperandOf}
 use Rattle.awk_resolve.specs.support.Parts.{is_concatenation, parts_of}
 use Rattle.awk_resolve.specs.support.Targets.{IsKeyOf, IsTargetOf}

@@ -11,7 +11,7 @@ use Rattle.awk_semantics.proofs.KeepsForms.{keeps_spend}
 use Rattle.awk_resolve.specs.declared.node.ValueNode.TheVariants as v
 use Rattle.awk_resolve.specs.declared.node.Node.{Node}
 use Rattle.awk_resolve.specs.declared.node.Node.TheVariants as node
-use Rattle.awk_resolve.specs.definitions.Nodes.{Tables, Cont, nothing, first, second, taken, popped, dropped, asked_operands, walk_values, keys_left, next_key_by, made, conts, level, cont_at}
+use Rattle.awk_resolve.specs.support.Nodes.{Tables, Cont, nothing, first, second, taken, popped, dropped, asked_operands, walk_values, keys_left, next_key_by, made, conts, level, cont_at}
 use Rattle.awk_resolve.proofs.Calculus.{later_falls}
 use Rattle.awk_resolve.proofs.Falling.{Falls, value_falls, effect_falls, asked_falls, kept_falls, keys_falls, put_variable_falls, operated_with_falls, operated_on_falls, append_to_falls, append_by_step_falls, print_by_step_falls, update_falls, increment_falls}
 

@@ -5,12 +5,12 @@ use Rattle.awk_value.specs.Values.{truth_of}
 use Rattle.awk_semantics.specs.definitions.State.{◌>>=◌}
 use Rattle.awk_semantics.specs.definitions.Primitives.{spend}
 use Rattle.awk_semantics.specs.definitions.Semantics.{Functions, choose}
-use Rattle.awk_storage.specs.definitions.Positions.{put_variable}
-use Rattle.awk_storage.specs.definitions.Forms.{keys_of_array}
+use Rattle.awk_storage.specs.support.Positions.{put_variable}
+use Rattle.awk_storage.specs.support.Forms.{keys_of_array}
 use Rattle.awk_resolve.specs.declared.node.ValueNode.TheVariants as v
 use Rattle.awk_resolve.specs.declared.node.Node.{Node}
 use Rattle.awk_resolve.specs.declared.node.Node.TheVariants as n
-use Rattle.awk_resolve.specs.definitions.Nodes.{operated_with, operated_on, append_to, append_by_step, print_by_step, asked, asked_operands, update, increment, Tables, Cont, nothing, first, second, taken, value_of, popped, effect_of, dropped, walk_values, keys_left, next_key_by, made as made_with, conts as conts_with, level, cont_at as cont_with, AreBelow, IsOrdered}
+use Rattle.awk_resolve.specs.support.Nodes.{operated_with, operated_on, append_to, append_by_step, print_by_step, asked, asked_operands, update, increment, Tables, Cont, nothing, first, second, taken, value_of, popped, effect_of, dropped, walk_values, keys_left, next_key_by, made as made_with, conts as conts_with, level, cont_at as cont_with, AreBelow, IsOrdered}
 
 abbrev at_place : List Cont → ℕ → Cont
 at_place done i = get_or done i nothing

@@ -15,7 +15,7 @@ use Rattle.awk_semantics.proofs.KeepsForms.{keeps_eval, keeps_tested, keeps_exec
 use Rattle.awk_resolve.specs.declared.node.Node.TheVariants as n
 use Rattle.awk_resolve.specs.declared.builder.Builder.{Builder}
 use Rattle.awk_resolve.specs.declared.builder.Exits.{Exits}
-use Rattle.awk_resolve.specs.definitions.Nodes.{Cont}
+use Rattle.awk_resolve.specs.support.Nodes.{Cont}
 use Rattle.awk_resolve.specs.support.Builds.{Grows, Pushes, Opens, Closes, Extends, IsIn, Program, Decide, DecideOptional, Execute, ExecutePart, leave_by, place_in, turns_in, Builds}
 use Rattle.awk_resolve.proofs.Calculus.{given, later_in}
 use Rattle.awk_resolve.proofs.Levels.{places_agree}

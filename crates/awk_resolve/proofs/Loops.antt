@@ -11,7 +11,7 @@ use Rattle.awk_semantics.specs.definitions.Primitives.{spend}
 use Rattle.awk_semantics.specs.definitions.Semantics.{choose, ending, turn, unless_ended, repeat_within, repeat}
 use Rattle.awk_semantics.specs.support.Keeps.{Keeps, scope_of}
 use Rattle.awk_semantics.proofs.KeepsForms.{keeps_repeat_within}
-use Rattle.awk_resolve.specs.definitions.Nodes.{Tables}
+use Rattle.awk_resolve.specs.support.Nodes.{Tables}
 use Rattle.awk_resolve.specs.support.Builds.{IsIn}
 use Rattle.awk_resolve.proofs.Calculus.{assoc_at, given, later_same, later_in, still_in, bounded_by}
 use Rattle.awk_resolve.proofs.Levels.{spent_same}

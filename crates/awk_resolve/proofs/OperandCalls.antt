@@ -18,7 +18,7 @@ use Rattle.awk_resolve.specs.declared.scope.Scope.{Scope}
 use Rattle.awk_resolve.specs.declared.node.Operand.{Operand}
 use Rattle.awk_resolve.specs.declared.node.ValueNode.TheVariants as v
 use Rattle.awk_resolve.specs.declared.node.Node.TheVariants as n
-use Rattle.awk_resolve.specs.definitions.Nodes.{operand_values, taken}
+use Rattle.awk_resolve.specs.support.Nodes.{operand_values, taken}
 use Rattle.awk_resolve.specs.support.Builds.{Grows, Pushes, Extends, IsIn, Program, Evaluate, EvaluateAll, Builds, AreOperandsOf, FindsEachOperand, Stands}
 use Rattle.awk_resolve.specs.support.Operands.{reads_in_place}
 use Rattle.awk_kinds.specs.OfValues.{is_of_values}

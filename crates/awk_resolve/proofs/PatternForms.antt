@@ -15,7 +15,7 @@ use Rattle.awk_semantics.specs.definitions.BuiltIns.{OfValue, ere_or}
 use Rattle.awk_semantics.specs.definitions.Semantics.{Functions, right_operand, combined, eval}
 use Rattle.awk_resolve.specs.declared.builder.Builder.{Builder}
 use Rattle.awk_resolve.specs.declared.node.Node.TheVariants as n
-use Rattle.awk_resolve.specs.definitions.Nodes.{Cont, ere_at}
+use Rattle.awk_resolve.specs.support.Nodes.{Cont, ere_at}
 use Rattle.awk_resolve.specs.support.Builds.{Grows, Pushes, Extends, Program, Evaluate, EvaluateUnlessEre, with_pattern, Builds, Stands}
 use Rattle.awk_resolve.specs.support.Operands.{matching_operator, matching, FindsPattern}
 use Rattle.awk_resolve.proofs.Calculus.{later_same, given}

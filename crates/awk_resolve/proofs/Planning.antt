@@ -24,8 +24,8 @@ use Rattle.awk_resolve.specs.declared.builder.Builder.{Builder}
 use Rattle.awk_resolve.specs.declared.node.Node.TheVariants as n
 use Rattle.awk_resolve.specs.declared.plan.Function.{Function as PlannedFunction}
 use Rattle.awk_resolve.specs.declared.plan.Plan.{Plan}
-use Rattle.awk_resolve.specs.definitions.Nodes.{IsOrdered, AllCallsFit}
-use Rattle.awk_resolve.specs.definitions.Plans.{Meaning, body_run, begin_run, rules_run, end_run, tables_of, array_parameters, DoesIn, IsPlanOf, IsFunction, AreFunctions}
+use Rattle.awk_resolve.specs.support.Nodes.{IsOrdered, AllCallsFit}
+use Rattle.awk_resolve.specs.support.Plans.{Meaning, body_run, begin_run, rules_run, end_run, tables_of, array_parameters, DoesIn, IsPlanOf, IsFunction, AreFunctions}
 use Rattle.awk_resolve.specs.support.Builds.{arrays_among, array_parameters_in, AreScalars, Grows, Pushes, Extends, Program, ExecuteAll, leave_by, place_in, Builds, Stands}
 use Rattle.awk_resolve.specs.support.Holding.{Holds, IsOver, AddsEnd, AddsPlace, AddsBody, AddsFunctions}
 use Rattle.awk_resolve.proofs.Calculus.{later_same}

@@ -23,8 +23,8 @@ use Rattle.awk_storage.specs.declared.position.Variable.{Variable}
 use Rattle.awk_storage.specs.declared.position.Array.{Array}
 use Rattle.awk_storage.specs.declared.position.Place.{Place}
 use Rattle.awk_storage.specs.declared.position.Place.TheVariants as place
-use Rattle.awk_storage.specs.definitions.Positions.{read_at, assign_at, assign_by_at, post_increment_at}
-use Rattle.awk_storage.specs.definitions.Forms.{assign_exchange_at, receive_at, receive_main_at, main_getline_at, receive_named_at, named_getline_at}
+use Rattle.awk_storage.specs.support.Positions.{read_at, assign_at, assign_by_at, post_increment_at}
+use Rattle.awk_storage.specs.support.Forms.{assign_exchange_at, receive_at, receive_main_at, main_getline_at, receive_named_at, named_getline_at}
 use Rattle.awk_resolve.specs.declared.builder.Builder.{Builder}
 use Rattle.awk_resolve.specs.support.Builds.{Grows, IsIn, Program, IsVariableOf, IsArrayOf, IsAt, IsPlaceOf}
 use Rattle.awk_resolve.proofs.Calculus.{assoc_at, later_same, later_in, first_same, given}

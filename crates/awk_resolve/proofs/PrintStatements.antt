@@ -16,13 +16,13 @@ use Rattle.awk_semantics.specs.definitions.Streams.{open_target}
 use Rattle.awk_semantics.specs.definitions.Semantics.{Functions, eval, eval_all, key_of, printed_values, target_of, print_by}
 use Rattle.awk_semantics.proofs.KeepsForms.{keeps_spend, keeps_eval}
 use Rattle.awk_storage.specs.declared.position.Array.{Array}
-use Rattle.awk_storage.specs.definitions.Forms.{delete_at, clear_at}
+use Rattle.awk_storage.specs.support.Forms.{delete_at, clear_at}
 use Rattle.awk_resolve.specs.declared.node.Node.TheVariants as n
 use Rattle.awk_resolve.specs.declared.node.EffectNode.TheVariants as e
 use Rattle.awk_resolve.specs.declared.node.Operand.{Operand}
 use Rattle.awk_resolve.specs.declared.builder.Builder.{Builder}
 use Rattle.awk_resolve.specs.declared.builder.Exits.{Exits}
-use Rattle.awk_resolve.specs.definitions.Nodes.{Cont, taken, operand_value, operand_values}
+use Rattle.awk_resolve.specs.support.Nodes.{Cont, taken, operand_value, operand_values}
 use Rattle.awk_resolve.specs.support.Printed.{listed}
 use Rattle.awk_resolve.specs.support.Builds.{Grows, Pushes, IsIn, Program, Evaluate, EvaluateAll, EvaluateKey, Execute, IsArrayOf, AreOperandsOf, FindsEachOperand, leave_by, place_in, Places, Builds, Stands}
 use Rattle.awk_resolve.proofs.Calculus.{assoc_at, later_same, later_in, first_same, given}

@@ -17,7 +17,7 @@ use Rattle.awk_semantics.specs.definitions.Operators.{truth_value, changed, appl
 use Rattle.awk_semantics.specs.definitions.Primitives.{number_of, read_field, record_text, local_in, local_value, global_value, read_name, read_element_at, read_element, has_element_at, has_element, joined_key}
 use Rattle.awk_semantics.specs.definitions.BuiltIns.{applied_all, record_length, apply_built_in, roles_of, value_of as argument_value, OfValue}
 use Rattle.awk_semantics.specs.definitions.Semantics.{Functions, right_operand, tested, choose, combined, eval, key_of, take_arguments, eval_all}
-use Rattle.awk_resolve.specs.definitions.Nodes.{operated}
+use Rattle.awk_resolve.specs.support.Nodes.{operated}
 use Rattle.awk_resolve.specs.support.Operands.{is_strict}
 use Rattle.awk_resolve.specs.support.Parts.{with_last, parts_behind}
 use Rattle.awk_kinds.specs.OfValues.{is_of_values}

@@ -21,7 +21,7 @@ use Rattle.awk_resolve.specs.declared.node.Operand.TheVariants as operand
 use Rattle.awk_resolve.specs.declared.node.ValueNode.TheVariants as v
 use Rattle.awk_resolve.specs.declared.builder.Builder.{Builder}
 use Rattle.awk_resolve.specs.declared.builder.Exits.{Exits}
-use Rattle.awk_resolve.specs.definitions.Nodes.{Cont}
+use Rattle.awk_resolve.specs.support.Nodes.{Cont}
 use Rattle.awk_resolve.specs.support.Builds.{Grows, Pushes, Extends, IsIn, Program, Part, Evaluate, Decide, DecideOptional, Execute, ExecutePart, does, leave_by, place_in, Places, Builds, Stands}
 use Rattle.awk_resolve.proofs.Calculus.{given, later_same, later_in}
 use Rattle.awk_resolve.proofs.Building.{grows, extends, same, placed, at_once, both}

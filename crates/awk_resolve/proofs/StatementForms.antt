@@ -13,7 +13,7 @@ use Rattle.awk_semantics.proofs.KeepsForms.{keeps_exec}
 use Rattle.awk_resolve.specs.declared.node.Node.TheVariants as n
 use Rattle.awk_resolve.specs.declared.builder.Builder.{Builder}
 use Rattle.awk_resolve.specs.declared.builder.Exits.{Exits}
-use Rattle.awk_resolve.specs.definitions.Nodes.{Cont}
+use Rattle.awk_resolve.specs.support.Nodes.{Cont}
 use Rattle.awk_resolve.specs.support.Builds.{Pushes, Decide, Execute, ExecuteAll, leave_by, place_in, Builds, Stands}
 use Rattle.awk_resolve.proofs.Calculus.{given, later_in}
 use Rattle.awk_resolve.proofs.Building.{grows, extends, same}

@@ -23,13 +23,13 @@ use Rattle.awk_storage.specs.declared.position.Variable.TheVariants as variable
 use Rattle.awk_storage.specs.declared.position.Array.{Array}
 use Rattle.awk_storage.specs.declared.position.Place.{Place}
 use Rattle.awk_storage.specs.declared.position.Place.TheVariants as place
-use Rattle.awk_storage.specs.definitions.Positions.{read_local, read_slot, number_at, read_element_of, read_variable, read_at}
-use Rattle.awk_storage.specs.definitions.Forms.{substitute_at}
+use Rattle.awk_storage.specs.support.Positions.{read_local, read_slot, number_at, read_element_of, read_variable, read_at}
+use Rattle.awk_storage.specs.support.Forms.{substitute_at}
 use Rattle.awk_resolve.specs.declared.builder.Builder.{Builder}
 use Rattle.awk_resolve.specs.declared.node.Exchange.{Exchange}
 use Rattle.awk_resolve.specs.declared.node.ValueNode.TheVariants as v
 use Rattle.awk_resolve.specs.declared.node.Node.TheVariants as n
-use Rattle.awk_resolve.specs.definitions.Nodes.{Tables, ere_at, first, second, operands, pattern_operands, target_operands, substitute_by, substitute_in}
+use Rattle.awk_resolve.specs.support.Nodes.{Tables, ere_at, first, second, operands, pattern_operands, target_operands, substitute_by, substitute_in}
 use Rattle.awk_resolve.specs.support.Builds.{Grows, Pushes, Extends, IsIn, Program, Evaluate, EvaluateOperand, EvaluateUnlessEre, IsAt, FindsVariable, FindsPlace, Builds, Stands}
 use Rattle.awk_resolve.specs.support.Exchanges.{FindsExchangeBy, FindsAnExchange}
 use Rattle.awk_resolve.specs.support.Operands.{FindsPattern, substitution}

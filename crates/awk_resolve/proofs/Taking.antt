@@ -22,7 +22,7 @@ use Rattle.awk_resolve.specs.declared.node.ValueNode.{ValueNode}
 use Rattle.awk_resolve.specs.declared.node.ValueNode.TheVariants as v
 use Rattle.awk_resolve.specs.declared.node.Node.{Node}
 use Rattle.awk_resolve.specs.declared.node.Node.TheVariants as n
-use Rattle.awk_resolve.specs.definitions.Nodes.{Cont, first, taken, operands, value_of, popped, append_to, made}
+use Rattle.awk_resolve.specs.support.Nodes.{Cont, first, taken, operands, value_of, popped, append_to, made}
 use Rattle.awk_resolve.specs.support.Builds.{Grows, Pushes, Extends, IsIn, Program, Evaluate, EvaluateAll, EvaluateKey, EvaluateOperand, Decide, key_value, place_in, turns_in, Places, Builds, IsAt, IsPlaceOf, Stands}
 use Rattle.awk_resolve.proofs.Calculus.{assoc_at, later_in, first_same}
 use Rattle.awk_resolve.proofs.Building.{grows, extends, placed, at_once, chosen}

@@ -15,7 +15,7 @@ use Rattle.awk_semantics.specs.definitions.Semantics.{Functions, eval, eval_all,
 use Rattle.awk_semantics.specs.support.Keeps.{Keeps, CallsKeep}
 use Rattle.awk_semantics.proofs.Keeping.{keeps_bind, keeps_lift}
 use Rattle.awk_semantics.proofs.KeepsForms.{keeps_eval, keeps_key_of}
-use Rattle.awk_resolve.specs.definitions.Nodes.{Tables, taken}
+use Rattle.awk_resolve.specs.support.Nodes.{Tables, taken}
 use Rattle.awk_resolve.specs.support.Builds.{IsIn, key_value}
 use Rattle.awk_resolve.proofs.Calculus.{assoc_at, later_same, later_in, given}
 

@@ -17,9 +17,9 @@ use Rattle.awk_semantics.specs.definitions.Primitives.{local_in, global_value, l
 use Rattle.awk_semantics.specs.support.Outside.{read_outside}
 use Rattle.awk_storage.specs.declared.position.Variable.TheVariants as variable
 use Rattle.awk_storage.specs.declared.position.Array.TheVariants as array
-use Rattle.awk_storage.specs.definitions.Positions.{newest_locals, value_of_local, read_local, with_newest, with_local_at, put_local, read_slot, put_slot, number_of_local}
+use Rattle.awk_storage.specs.support.Positions.{newest_locals, value_of_local, read_local, with_newest, with_local_at, put_local, read_slot, put_slot, number_of_local}
 use Rattle.awk_resolve.specs.declared.builder.Builder.{Builder}
-use Rattle.awk_resolve.specs.definitions.States.{is_array_local}
+use Rattle.awk_resolve.specs.support.States.{is_array_local}
 use Rattle.awk_resolve.specs.support.Builds.{arrays_among, IsScalar, AreScalars, AddsName, IsVariableOf, FindsVariable, IsArrayOf, IsOfKind}
 use Rattle.awk_resolve.specs.support.Calls.{is_array_at}
 use Rattle.awk_resolve.proofs.Building.{get_pushed, front_then, named}

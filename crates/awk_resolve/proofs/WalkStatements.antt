@@ -11,12 +11,12 @@ use Rattle.awk_semantics.specs.definitions.Semantics.{walk, exec}
 use Rattle.awk_semantics.proofs.KeepsForms.{keeps_exec, keeps_walk, keeps_keys_in}
 use Rattle.awk_storage.specs.declared.position.Variable.{Variable}
 use Rattle.awk_storage.specs.declared.position.Array.{Array}
-use Rattle.awk_storage.specs.definitions.Forms.{keys_of_array}
-use Rattle.awk_storage.specs.definitions.Positions.{put_variable}
+use Rattle.awk_storage.specs.support.Forms.{keys_of_array}
+use Rattle.awk_storage.specs.support.Positions.{put_variable}
 use Rattle.awk_resolve.specs.declared.node.Node.TheVariants as n
 use Rattle.awk_resolve.specs.declared.builder.Builder.{Builder}
 use Rattle.awk_resolve.specs.declared.builder.Exits.{Exits}
-use Rattle.awk_resolve.specs.definitions.Nodes.{walk_values, made}
+use Rattle.awk_resolve.specs.support.Nodes.{walk_values, made}
 use Rattle.awk_resolve.specs.support.Builds.{Pushes, Opens, Closes, IsIn, Program, Execute, leave_by, place_in, turns_in, Builds, Stands, FindsVariable, IsArrayOf}
 use Rattle.awk_resolve.proofs.Calculus.{first_same, later_in}
 use Rattle.awk_resolve.proofs.Walks.{IsWalk, keys_dropped, one_less, walks}

@@ -12,7 +12,7 @@ use Rattle.awk_semantics.specs.definitions.Primitives.{spend, put}
 use Rattle.awk_semantics.specs.definitions.Semantics.{ending, turn, unless_ended, walk}
 use Rattle.awk_semantics.specs.support.Keeps.{Keeps}
 use Rattle.awk_semantics.proofs.KeepsForms.{keeps_put}
-use Rattle.awk_resolve.specs.definitions.Nodes.{Tables, Cont, walk_values, keys_left}
+use Rattle.awk_resolve.specs.support.Nodes.{Tables, Cont, walk_values, keys_left}
 use Rattle.awk_resolve.specs.support.Builds.{IsIn}
 use Rattle.awk_resolve.proofs.Calculus.{assoc_at, given, later_in, bounded_by}
 use Rattle.awk_resolve.proofs.Levels.{spent_same}

@@ -10,3 +10,6 @@ pub mod Printed
 pub mod Holding
 pub mod Targets
 pub mod Exchanges
+pub mod Nodes
+pub mod States
+pub mod Plans

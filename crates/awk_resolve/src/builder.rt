@@ -1,7 +1,7 @@
 // What is built of a program: nodes, and the places of loops' bodies; and the names and EREs that nodes tell by numbers.
 
 ghost use Rattle.std.specs.Prelude.{◌≡◌, suc, ◌<◌, length, IfOk};
-ghost use Rattle.awk_resolve.specs.definitions.Nodes.{CallsFit};
+ghost use Rattle.awk_resolve.specs.support.Nodes.{CallsFit};
 ghost use Rattle.awk_resolve.specs.support.Builds.{array_parameters_in, Pushes, Opens, Closes, AddsName, AddsEre};
 
 use crate::node::Node;

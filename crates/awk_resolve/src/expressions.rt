@@ -5,7 +5,7 @@ ghost use Rattle.awk_grammar.specs.declared.tree.BinaryOperator.TheVariants.{Con
 ghost use Rattle.awk_grammar.specs.Tree.{Element, Field, Name, Unary, Binary, Membership, ListMembership, Conditional};
 ghost use Rattle.awk_grammar.specs.View.{expr_of, exprs_of};
 ghost use Rattle.awk_kinds.specs.definitions.NameUses.{count_of};
-ghost use Rattle.awk_resolve.specs.definitions.Nodes.{CallsFit};
+ghost use Rattle.awk_resolve.specs.support.Nodes.{CallsFit};
 ghost use Rattle.awk_resolve.specs.support.Builds.{array_parameters_in, Pushes, Stands, Evaluate, EvaluateAll};
 ghost use Rattle.awk_resolve.specs.support.Operands.{is_and, is_or, is_strict, matching_operator, matching, PushesTruths, PushesEre};
 ghost use Rattle.awk_resolve.specs.support.Parts.{is_concatenation, parts_of};

@@ -5,7 +5,7 @@ ghost use Rattle.awk_grammar.specs.Tree.{Range};
 ghost use Rattle.awk_grammar.specs.View.{expr_of, statements_of, pattern_of, item_of, items_of};
 ghost use Rattle.awk_kinds.specs.Placed.{item_fits, are_in_place};
 ghost use Rattle.awk_semantics.specs.Items.{run_action, print_record, try_item, is_rule, has_rule};
-ghost use Rattle.awk_resolve.specs.definitions.Plans.{begin_run, rules_run, end_run};
+ghost use Rattle.awk_resolve.specs.support.Plans.{begin_run, rules_run, end_run};
 ghost use Rattle.awk_resolve.specs.support.Builds.{Stands, ExecuteAll};
 ghost use Rattle.awk_resolve.specs.support.Holding.{IsOver, IsAction, AddsPlace, Passes, Selects};
 ghost use Rattle.awk_resolve.specs.support.Scopes.{Builds};

@@ -6,7 +6,7 @@ ghost use Rattle.awk_grammar.specs.View.{statements_of, items_of, tree_of};
 ghost use Rattle.awk_kinds.specs.Placed.{are_in_place};
 ghost use Rattle.awk_kinds.specs.definitions.Kinds.{definitions_of};
 ghost use Rattle.awk_kinds.specs.definitions.Signatures.{Signature, ProgramKinds, kinds_of};
-ghost use Rattle.awk_resolve.specs.definitions.Plans.{IsPlanOf, ResolvesTo};
+ghost use Rattle.awk_resolve.specs.support.Plans.{IsPlanOf, ResolvesTo};
 ghost use Rattle.awk_resolve.specs.support.Builds.{arrays_among};
 ghost use Rattle.awk_resolve.specs.support.Holding.{IsOver, AddsEnd, AddsBody, AddsFunctions};
 

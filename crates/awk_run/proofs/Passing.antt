@@ -20,8 +20,8 @@ use Rattle.awk_resolve.specs.declared.plan.Plan.{Plan}
 use Rattle.awk_resolve.specs.declared.node.Operand.TheVariants as operand
 use Rattle.awk_resolve.specs.declared.node.Node.TheVariants as node
 use Rattle.awk_resolve.specs.declared.node.ValueNode.TheVariants as v
-use Rattle.awk_resolve.specs.definitions.Nodes.{Cont, IsOrdered, value_of, ere_at as ere_in}
-use Rattle.awk_resolve.specs.definitions.Plans.{tables_of}
+use Rattle.awk_resolve.specs.support.Nodes.{Cont, IsOrdered, value_of, ere_at as ere_in}
+use Rattle.awk_resolve.specs.support.Plans.{tables_of}
 use Rattle.awk_resolve.proofs.Listed.{node_at}
 use Rattle.awk_runtime.specs.declared.passing.Unwanted.{Unwanted}
 use Rattle.awk_runtime.specs.declared.passing.Unwanted.TheVariants.{All as Every, Unmatched}

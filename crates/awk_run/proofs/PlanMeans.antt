@@ -4,8 +4,8 @@ use Rattle.awk_value.specs.declared.value.Value.TheVariants as value
 use Rattle.awk_grammar.specs.Tree.{Item}
 use Rattle.awk_kinds.specs.definitions.Kinds.{definitions_of, array_names_of}
 use Rattle.awk_resolve.specs.declared.plan.Plan.{Plan}
-use Rattle.awk_resolve.specs.definitions.States.{AreFor}
-use Rattle.awk_resolve.specs.definitions.Plans.{tables_of, DoesIn, IsPlanOf}
+use Rattle.awk_resolve.specs.support.States.{AreFor}
+use Rattle.awk_resolve.specs.support.Plans.{tables_of, DoesIn, IsPlanOf}
 use Rattle.awk_semantics.specs.declared.halt.Halt.{Halt}
 use Rattle.awk_semantics.specs.definitions.State.{Effect, Frame, State, Out, Run, go_on, ◌>>=◌, lift, ret}
 use Rattle.awk_semantics.specs.definitions.Primitives.{spend, outside_calls}

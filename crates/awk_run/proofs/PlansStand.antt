@@ -13,9 +13,9 @@ use Rattle.awk_semantics.specs.definitions.Primitives.{enter, leave}
 use Rattle.awk_semantics.specs.definitions.Calls.{definition_of, body_height, call_within, functions_within}
 use Rattle.awk_resolve.specs.declared.plan.Function.{Function as PlannedFunction}
 use Rattle.awk_resolve.specs.declared.plan.Plan.{Plan}
-use Rattle.awk_resolve.specs.definitions.Nodes.{cont_at, function_at}
-use Rattle.awk_resolve.specs.definitions.States.{LocalsFit}
-use Rattle.awk_resolve.specs.definitions.Plans.{Meaning, IsFunction, AreFunctions, tables_of, DoesIn, IsPlanOf}
+use Rattle.awk_resolve.specs.support.Nodes.{cont_at, function_at}
+use Rattle.awk_resolve.specs.support.States.{LocalsFit}
+use Rattle.awk_resolve.specs.support.Plans.{Meaning, IsFunction, AreFunctions, tables_of, DoesIn, IsPlanOf}
 use Rattle.awk_resolve.proofs.Calling.{found, called}
 use Rattle.awk_evaluator.specs.Rest.{StandsFor, PlanStands}
 use Rattle.awk_runtime.specs.support.Naming.{Naming}

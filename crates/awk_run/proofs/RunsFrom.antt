@@ -11,8 +11,8 @@ use Rattle.awk_streams.specs.Commands.{Finishes}
 use Rattle.awk_streams.specs.WorldState.{WorldState}
 use Rattle.awk_grammar.specs.Tree.{Item}
 use Rattle.awk_resolve.specs.declared.plan.Plan.{Plan}
-use Rattle.awk_resolve.specs.definitions.States.{AreFor}
-use Rattle.awk_resolve.specs.definitions.Plans.{tables_of}
+use Rattle.awk_resolve.specs.support.States.{AreFor}
+use Rattle.awk_resolve.specs.support.Plans.{tables_of}
 use Rattle.awk_semantics.specs.declared.halt.Halt.{Halt}
 use Rattle.awk_semantics.specs.declared.outcome.Outcome.{Outcome}
 use Rattle.awk_semantics.specs.declared.outcome.Outcome.TheVariants.{Fault}

@@ -15,8 +15,8 @@ use Rattle.awk_kinds.specs.definitions.Signatures.{Signature, ProgramKinds, sign
 use Rattle.awk_kinds.proofs.ArrayNames.{array_names_are}
 use Rattle.awk_resolve.specs.declared.plan.Plan.{Plan}
 use Rattle.awk_resolve.proofs.Calling.{are_for}
-use Rattle.awk_resolve.specs.definitions.States.{AreScalars, AreFor}
-use Rattle.awk_resolve.specs.definitions.Plans.{tables_of}
+use Rattle.awk_resolve.specs.support.States.{AreScalars, AreFor}
+use Rattle.awk_resolve.specs.support.Plans.{tables_of}
 use Rattle.awk_semantics.specs.definitions.Meaning.{StartValues}
 use Rattle.awk_runtime.specs.declared.runtime.Runtime.{Runtime}
 use Rattle.awk_runtime.specs.declared.start.Assignment.{Assignment}

@@ -30,7 +30,7 @@ use Rattle.awk_storage.specs.Forms.{match_in, split_at, split_with, fill_at, ass
 use Rattle.awk_functions.specs.declared.found.Exchanged.{Exchanged}
 use Rattle.awk_functions.specs.declared.formats.Formats.{Formats}
 use Rattle.awk_functions.specs.declared.patterns.Patterns.{Patterns}
-use Rattle.awk_functions.specs.definitions.Matched.{matched, found, some_exchanged, exchanged_by, split_by}
+use Rattle.awk_functions.specs.support.Matched.{matched, found, some_exchanged, exchanged_by, split_by}
 use Rattle.awk_functions.specs.support.Written.{Writes}
 use Rattle.awk_runtime.specs.declared.runtime.Runtime.{Runtime}
 use Rattle.awk_runtime.specs.support.Simulation.{Changes, SameState}

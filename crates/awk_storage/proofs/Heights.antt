@@ -5,7 +5,7 @@ use Rattle.std.proofs.lemmas.List.{take-append-le, take_all, length-take}
 use Rattle.std.proofs.lemmas.List.Sums.{sum_by-cons}
 use Rattle.awk_storage.specs.declared.entry.Entry.{Entry}
 use Rattle.awk_storage.specs.declared.control.TheConstants.{FIRST_BOUND}
-use Rattle.awk_storage.specs.definitions.Control.{Controlled, but_last, HasRoom}
+use Rattle.awk_storage.specs.support.Control.{Controlled, but_last, HasRoom}
 use Rattle.awk_storage.specs.support.Entered.{AreHigh, AreEntered}
 
 pub no_lower : (heights : List ℕ) → AreHigh heights → length heights ≤ sum heights

@@ -4,3 +4,7 @@ pub mod Frames
 pub mod SpecialValues
 pub mod Tables
 pub mod Lending
+pub mod Positions
+pub mod Forms
+pub mod Control
+pub mod Subscripts

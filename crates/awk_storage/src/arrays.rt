@@ -9,7 +9,7 @@ ghost use Rattle.awk_value.specs.declared.fault.ValueFault.TheVariants.{Memory};
 ghost use Rattle.awk_value.specs.Arrays.{value_at, with_pair, with_key, without};
 ghost use Rattle.awk_text.specs.Pieces.{stretches_at, AreSpansOf};
 ghost use Rattle.awk_semantics.specs.definitions.Primitives.{elements_from};
-ghost use Rattle.awk_storage.specs.definitions.Subscripts.{key_of};
+ghost use Rattle.awk_storage.specs.support.Subscripts.{key_of};
 
 use crate::key;
 use crate::subscript::Subscript;

@@ -4,7 +4,7 @@ ghost use Rattle.std.specs.Prelude.{◌≡◌, ◌+◌, ◌-◌, ◌≤◌, ◌<
 ghost use Rattle.std.specs.List.{sum};
 ghost use Rattle.std.specs.Option.{option_copied};
 ghost use Rattle.awk_storage.specs.declared.control.TheConstants.{FIRST_BOUND};
-ghost use Rattle.awk_storage.specs.definitions.Control.{Controlled, highest_sum, but_last, bound_of, HasRoom};
+ghost use Rattle.awk_storage.specs.support.Control.{Controlled, highest_sum, but_last, bound_of, HasRoom};
 
 use crate::entry::Entry;
 use crate::room;
@@ -31,7 +31,7 @@ impl Model for Control {
     ghost use Rattle.std.specs.Prelude.{◌≡◌, ◌+◌, ◌≤◌, length};
     ghost use Rattle.std.specs.List.{sum};
     ghost use Rattle.awk_storage.specs.declared.control.TheConstants.{FIRST_BOUND};
-    ghost use Rattle.awk_storage.specs.definitions.Control.{Controlled, highest_sum};
+    ghost use Rattle.awk_storage.specs.support.Control.{Controlled, highest_sum};
 
     ghost Value = { Controlled };
 

@@ -10,7 +10,7 @@ ghost use Rattle.awk_value.specs.Arrays.{value_at, with_pair, with_key, without}
 ghost use Rattle.awk_value.specs.Lending.{LendsValue};
 ghost use Rattle.awk_text.specs.Pieces.{stretches_at, AreSpansOf};
 ghost use Rattle.awk_semantics.specs.definitions.Primitives.{elements_from};
-ghost use Rattle.awk_storage.specs.definitions.Subscripts.{key_of};
+ghost use Rattle.awk_storage.specs.support.Subscripts.{key_of};
 
 use crate::subscript::Subscript;
 use awk_text::Span;

@@ -2,7 +2,7 @@
 
 ghost use Rattle.std.specs.Prelude.{◌≡◌};
 ghost use Rattle.awk_value.specs.Values.{str_of};
-ghost use Rattle.awk_storage.specs.definitions.Subscripts.{key_of};
+ghost use Rattle.awk_storage.specs.support.Subscripts.{key_of};
 
 use awk_value::Value;
 use itoa::Buffer;

@@ -17,14 +17,14 @@ use Rattle.awk_semantics.specs.definitions.BuiltIns.{Role, AsArray, next_role}
 use Rattle.awk_semantics.specs.definitions.Semantics.{Functions, choose, eval, place_of, eval_all, key_of, exec, exec_all, exec_part, goes_on}
 use Rattle.awk_storage.specs.declared.position.Variable.{Variable}
 use Rattle.awk_storage.specs.declared.position.Array.{Array}
-use Rattle.awk_storage.specs.definitions.Positions.{number_at, read_variable, put_variable, read_at, store_at}
+use Rattle.awk_storage.specs.support.Positions.{number_at, read_variable, put_variable, read_at, store_at}
 use Rattle.awk_storage.specs.declared.position.Place.{Place}
 use Rattle.awk_resolve.specs.declared.node.Node.{Node}
 use Rattle.awk_resolve.specs.declared.node.Operand.{Operand}
 use Rattle.awk_resolve.specs.declared.builder.Builder.{Builder}
 use Rattle.awk_resolve.specs.declared.builder.Exits.{Exits}
-pub use Rattle.awk_resolve.specs.definitions.States.{IsScalar, AreScalars, IsIn, AreFor}
-use Rattle.awk_resolve.specs.definitions.Nodes.{Tables, Cont, operand_value, first, operands, made, level, cont_at, IsOrdered, CallsFit, AllCallsFit}
+pub use Rattle.awk_resolve.specs.support.States.{IsScalar, AreScalars, IsIn, AreFor}
+use Rattle.awk_resolve.specs.support.Nodes.{Tables, Cont, operand_value, first, operands, made, level, cont_at, IsOrdered, CallsFit, AllCallsFit}
 
 -- which parameters of the functions are arrays
 

@@ -10,7 +10,7 @@ use Rattle.awk_storage.specs.declared.position.Variable.{Variable}
 use Rattle.awk_resolve.specs.declared.builder.Builder.{Builder}
 use Rattle.awk_resolve.specs.declared.node.Exchange.{Exchange}
 use Rattle.awk_resolve.specs.declared.scope.Scope.{Scope}
-use Rattle.awk_resolve.specs.definitions.Nodes.{substitute_in}
+use Rattle.awk_resolve.specs.support.Nodes.{substitute_in}
 use Rattle.awk_resolve.specs.support.Builds.{Grows, AddsEre, Extends, IsIn, Program}
 use Rattle.awk_resolve.specs.support.Operands.{substitution}
 use Rattle.awk_resolve.specs.support.Scopes.{parameters_of}

@@ -10,8 +10,8 @@ use Rattle.awk_semantics.specs.definitions.Semantics.{Functions, choose}
 use Rattle.awk_semantics.specs.definitions.Items.{selects}
 use Rattle.awk_resolve.specs.declared.builder.Builder.{Builder}
 use Rattle.awk_resolve.specs.declared.plan.Function.{Function}
-use Rattle.awk_resolve.specs.definitions.Nodes.{nothing}
-use Rattle.awk_resolve.specs.definitions.Plans.{Meaning, IsFunction, AreFunctions}
+use Rattle.awk_resolve.specs.support.Nodes.{nothing}
+use Rattle.awk_resolve.specs.support.Plans.{Meaning, IsFunction, AreFunctions}
 use Rattle.awk_resolve.specs.support.Builds.{Grows, IsIn, Program, place_in, Stands}
 
 -- a place does this, now and later

@@ -11,8 +11,8 @@ use Rattle.awk_semantics.specs.definitions.Calls.{functions_within}
 use Rattle.awk_semantics.specs.definitions.Items.{until_next, until_exit, run_records}
 use Rattle.awk_semantics.specs.definitions.Meaning.{assign_all}
 use Rattle.awk_resolve.specs.declared.plan.Plan.{Plan}
-use Rattle.awk_resolve.specs.definitions.Nodes.{cont_at}
-use Rattle.awk_resolve.specs.definitions.Plans.{tables_of, IsPlanOf}
+use Rattle.awk_resolve.specs.support.Nodes.{cont_at}
+use Rattle.awk_resolve.specs.support.Plans.{tables_of, IsPlanOf}
 use Rattle.awk_runtime.specs.support.Naming.{Naming}
 
 -- the plan of this program, whose names a run has

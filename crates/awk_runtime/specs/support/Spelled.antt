@@ -16,7 +16,7 @@ use Rattle.awk_storage.specs.declared.position.Place.TheVariants as place
 use Rattle.awk_storage.specs.Positions.{read_variable}
 use Rattle.awk_storage.specs.Forms.{substitute_at}
 use Rattle.awk_functions.specs.declared.found.Exchanged.{Exchanged}
-use Rattle.awk_functions.specs.definitions.Matched.{exchanged_by}
+use Rattle.awk_functions.specs.support.Matched.{exchanged_by}
 use Rattle.awk_runtime.specs.support.Naming.{Naming, ere_at}
 use Rattle.awk_runtime.specs.declared.texts.PatternSource.{PatternSource}
 use Rattle.awk_runtime.specs.declared.texts.PatternSource.TheVariants as source

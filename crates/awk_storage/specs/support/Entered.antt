@@ -1,6 +1,6 @@
 -- The calls that are active: as many entries as bodies, each of which has a height.
 use Rattle.std.specs.Prelude.{◌≡◌, ◌<◌, ℕ, List, [], ◌∷◌, length}
-use Rattle.awk_storage.specs.definitions.Control.{Controlled}
+use Rattle.awk_storage.specs.support.Control.{Controlled}
 
 abbrev pub AreHigh : List ℕ → Type 0
 AreHigh [] = Unit {0}

@@ -1,6 +1,6 @@
 use Rattle.std.proofs.Common.{[], drop}
 use Rattle.awk_grammar.specs.View.{items_of}
-use Rattle.awk_resolve.specs.definitions.Plans.{rules_run}
+use Rattle.awk_resolve.specs.support.Plans.{rules_run}
 use Rattle.awk_resolve.specs.support.Holding.{AddsPlace}
 use Rattle.awk_resolve.proofs.builder.Builder.lower_rules.Given as goal
 

@@ -1,6 +1,6 @@
 use Rattle.awk_value.specs.Values.{str_of}
 use Rattle.awk_semantics.specs.Operators.{pattern_in}
-use Rattle.awk_functions.specs.definitions.Matched.{exchanged_by}
+use Rattle.awk_functions.specs.support.Matched.{exchanged_by}
 use Rattle.awk_runtime.proofs.TextChanges.{room, lift_spelled}
 use Rattle.awk_runtime.proofs.runtime.Runtime.exchange.Goals as goal
 

@@ -1,6 +1,6 @@
 use Rattle.awk_value.specs.Values.{str_of}
 use Rattle.awk_semantics.specs.Operators.{pattern_in}
-use Rattle.awk_functions.specs.definitions.Matched.{found}
+use Rattle.awk_functions.specs.support.Matched.{found}
 use Rattle.awk_runtime.proofs.TextChanges.{room, lift_spelled}
 use Rattle.awk_runtime.proofs.runtime.Runtime.find.Goals as goal
 

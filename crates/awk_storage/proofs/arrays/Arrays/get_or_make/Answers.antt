@@ -1,7 +1,7 @@
 use Rattle.std.proofs.Common.{[], ap, ◌∙◌, List, length, ◌<◌, ◌≡◌, set, take, get_or, arith}
 use Rattle.std.proofs.lemmas.List.{get_or_read}
 use Rattle.awk_value.specs.Arrays.{Array, with_key}
-use Rattle.awk_storage.specs.definitions.Subscripts.{key_of}
+use Rattle.awk_storage.specs.support.Subscripts.{key_of}
 use Rattle.awk_storage.specs.support.Tables.{array_of}
 use Rattle.awk_storage.proofs.TableLemmas.{changed}
 use Rattle.awk_storage.proofs.arrays.Arrays.get_or_make.Goals as goal

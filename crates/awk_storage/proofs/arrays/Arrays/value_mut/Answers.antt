@@ -1,6 +1,6 @@
 use Rattle.std.proofs.Common.{◌≡◌, ◌∙◌, ◌<◌, [], List, length, set, get_or, ap, inr, arith}
 use Rattle.std.proofs.lemmas.List.{get_or_read}
-use Rattle.awk_storage.specs.definitions.Subscripts.{key_of}
+use Rattle.awk_storage.specs.support.Subscripts.{key_of}
 use Rattle.awk_value.specs.declared.value.Value.{Value}
 use Rattle.awk_value.specs.Arrays.{Array, value_at, with_pair}
 use Rattle.awk_storage.specs.support.Tables.{array_of}

@@ -11,8 +11,8 @@ use Rattle.awk_semantics.specs.definitions.State.{State}
 use Rattle.awk_semantics.specs.definitions.Calls.{role_of}
 use Rattle.awk_semantics.specs.definitions.Semantics.{Functions}
 use Rattle.awk_semantics.specs.support.Keeps.{CallsKeep}
-use Rattle.awk_storage.specs.definitions.Positions.{newest_locals}
-use Rattle.awk_resolve.specs.definitions.Nodes.{Tables}
+use Rattle.awk_storage.specs.support.Positions.{newest_locals}
+use Rattle.awk_resolve.specs.support.Nodes.{Tables}
 
 -- a name whose value a run keeps by the name itself
 pub record IsScalar (x : List ℕ) : Type 0 where

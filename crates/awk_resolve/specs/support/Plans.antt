@@ -16,8 +16,8 @@ use Rattle.awk_semantics.specs.definitions.Calls.{returned}
 use Rattle.awk_semantics.specs.definitions.Items.{has_rule, begin_items, try_items, end_items}
 use Rattle.awk_resolve.specs.declared.plan.Function.{Function as PlannedFunction}
 use Rattle.awk_resolve.specs.declared.plan.Plan.{Plan}
-use Rattle.awk_resolve.specs.definitions.Nodes.{Tables, cont_at, IsOrdered, AllCallsFit}
-use Rattle.awk_resolve.specs.definitions.States.{AreScalars, IsIn, AreFor}
+use Rattle.awk_resolve.specs.support.Nodes.{Tables, cont_at, IsOrdered, AllCallsFit}
+use Rattle.awk_resolve.specs.support.States.{AreScalars, IsIn, AreFor}
 
 -- what a place comes to, whatever lies on the stack there
 

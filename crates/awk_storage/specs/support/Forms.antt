@@ -18,7 +18,7 @@ use Rattle.awk_semantics.specs.definitions.Inputs.{next_record}
 use Rattle.awk_semantics.specs.definitions.Places.{answer, count_of}
 use Rattle.awk_storage.specs.declared.position.Array.{Array}
 use Rattle.awk_storage.specs.declared.position.Place.{Place}
-use Rattle.awk_storage.specs.definitions.Positions.{number_at, store_at}
+use Rattle.awk_storage.specs.support.Positions.{number_at, store_at}
 
 -- arrays
 

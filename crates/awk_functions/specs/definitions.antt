@@ -1,2 +1,0 @@
-pub mod Matched
-pub mod Spelling

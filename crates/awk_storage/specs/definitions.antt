@@ -1,4 +1,0 @@
-pub mod Positions
-pub mod Forms
-pub mod Control
-pub mod Subscripts
