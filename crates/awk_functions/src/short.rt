@@ -8,6 +8,7 @@ ghost use Rattle.awk_functions.specs.support.Numbers.{IsOfNumbers};
 
 use crate::relations::relate_numbers;
 use awk_lex::token::Operator;
+use awk_value::pow;
 
 /// The product of two numbers that are short. `None` of longer ones.
 #[inline(always)]
@@ -42,8 +43,8 @@ fn short_remainder(x: i128, y: i128) -> Option<i128>
     Some(i128::from(short.checked_rem(other)?))
 }
 
-/// The number that an operator of arithmetic makes of two numbers. `None` of any other operator, and where that isn't found in a few
-/// steps, as of long factors, of a power or of a fault. (POSIX awk, Expressions in awk)
+/// The number that an operator of arithmetic makes of two numbers. `None` of any other operator, and where that isn't found at once, as
+/// of long factors or a fault. (POSIX awk, Expressions in awk)
 #[inline(always)]
 pub fn compute_in_short(operator: Operator, x: i128, y: i128) -> Option<i128>
     ensures some { IfSome result (λ n. applied operator (Number x) (Number y) ≡ Ok (Number n)) }
@@ -55,8 +56,8 @@ pub fn compute_in_short(operator: Operator, x: i128, y: i128) -> Option<i128>
         Operator::Times => short_product(x, y),
         Operator::Divide => short_quotient(x, y),
         Operator::Remainder => short_remainder(x, y),
-        Operator::Power
-        | Operator::Less
+        Operator::Power => pow(x, y).ok(),
+        Operator::Less
         | Operator::LessEqual
         | Operator::Equal
         | Operator::NotEqual
@@ -70,7 +71,7 @@ pub fn compute_in_short(operator: Operator, x: i128, y: i128) -> Option<i128>
 }
 
 /// The number that an operator makes of two numbers: of arithmetic, or 1 or 0 where they are related so. `None` where that isn't found
-/// in a few steps. (POSIX awk, Expressions in awk)
+/// at once. (POSIX awk, Expressions in awk)
 #[inline(always)]
 pub fn apply_in_short(operator: Operator, x: i128, y: i128) -> Option<i128>
     ensures { IfSome result (λ n. applied operator (Number x) (Number y) ≡ Ok (Number n)) }

@@ -1,4 +1,4 @@
-use Rattle.awk_value.specs.Arithmetic.{product_of, sum_of, difference_of, quotient_of, remainder_of}
+use Rattle.awk_value.specs.Arithmetic.{product_of, sum_of, difference_of, quotient_of, remainder_of, power_of}
 use Rattle.awk_functions.proofs.OfNumbers.{arithmetic_by, where_some}
 use Rattle.awk_functions.proofs.short.compute_in_short.Goals as goal
 
@@ -16,3 +16,6 @@ returns-in-Divide-clause-of_numbers c = rw c.in-Divide.is (where_some _ (arithme
 
 pub returns-in-Remainder-clause-of_numbers : goal.returns-in-Remainder-clause-of_numbers
 returns-in-Remainder-clause-of_numbers c = rw c.in-Remainder.is (where_some _ (arithmetic_by remainder_of))
+
+pub returns-in-Power-clause-of_numbers : goal.returns-in-Power-clause-of_numbers
+returns-in-Power-clause-of_numbers c = rw c.in-Power.is (where_some _ (arithmetic_by power_of))
