@@ -1,12 +1,11 @@
 // Printing.
 
-ghost use Rattle.std.specs.Prelude.{◌≡◌, ℕ, pos, List, [], map, true, false, Ok, IfOk, IfSome};
+ghost use Rattle.std.specs.Prelude.{◌≡◌, ℕ, pos, [], true, false, Ok, IfOk, IfSome};
 ghost use Rattle.awk_value.specs.Values.{str_of};
 ghost use Rattle.awk_world.specs.declared.world.OutputKind.TheVariants.{Command as OutputCommand};
 ghost use Rattle.awk_world.specs.declared.world.Mode.TheVariants.{Truncate as ModeTruncate};
 ghost use Rattle.awk_streams.specs.Streams.{IsTarget};
 ghost use Rattle.awk_semantics.specs.State.{ret};
-ghost use Rattle.awk_semantics.specs.Operators.{join};
 ghost use Rattle.awk_semantics.specs.Primitives.{print_line};
 ghost use Rattle.awk_semantics.specs.Streams.{open_output, open_file, open_target};
 ghost use Rattle.awk_semantics.specs.Semantics.{Functions, print_by};
@@ -42,17 +41,6 @@ pub(crate) fn text_at_hand(value: &Value) -> Option<&Bytes>
     match value {
         Value::Text(text) | Value::Input(text) => Some(text),
         Value::Nothing | Value::Number(_) => None,
-    }
-}
-
-// The text of the only value, if it is one.
-#[inline(always)]
-fn only_text(values: &[Value]) -> Option<&Bytes>
-    ensures { IfSome result (λ text. (separator : List ℕ) → join separator (map str_of values.now) ≡ text.now) }
-{
-    match values {
-        [value] => text_at_hand(value),
-        _ => None,
     }
 }
 
@@ -310,48 +298,6 @@ impl Runtime {
 
     // Prints the values as a line, by OFS and ORS.
     fn print_values<W: World>(
-        &mut self,
-        world: &mut W,
-        target: Target,
-        values: &[Value],
-    ) -> Result<(), Halt>
-        requires target { IsTarget target self.old.streams }
-        requires ready { IsReady W.is_logged (W.state world.old) self.old.streams }
-        ensures ready { IsReady W.is_logged (W.state world.new) self.new.streams }
-        ensures prints { PrintsTo W.is_logged target (λ n. print_line n values.now) self.old (W.state world.old) self.new
-            (W.state world.new) result }
-    {
-        if self.hold_text(world, target, values) {
-            return Ok(());
-        }
-        self.print_line(world, target, values)
-    }
-
-    // Prints one text as a line to standard output, where it can be held back as it stands: nothing is asked of the world then.
-    // `false`, and nothing changes, elsewhere.
-    #[inline(always)]
-    fn hold_text<W: World>(&mut self, world: &W, target: Target, values: &[Value]) -> bool
-        requires ready { IsReady W.is_logged (W.state world.now) self.old.streams }
-        ensures ready { IsReady W.is_logged (W.state world.now) self.new.streams }
-        ensures target { IsTarget target self.old.streams → IsTarget target self.new.streams }
-        ensures kept { result ≡ false → self.new ≡ self.old }
-        ensures prints { result ≡ true → PrintsTo W.is_logged target (λ n. print_line n values.now) self.old (W.state world.now)
-            self.new (W.state world.now) (Ok tt) }
-    {
-        let Target::StandardOutput = target else {
-            return false;
-        };
-        let Some(text) = only_text(values) else {
-            return false;
-        };
-        let Some(end) = text_at_hand(self.specials.special(Special::Ors)) else {
-            return false;
-        };
-        self.streams.hold(text.as_slice(), end.as_slice())
-    }
-
-    // Makes the line of the values, and prints it.
-    fn print_line<W: World>(
         &mut self,
         world: &mut W,
         target: Target,
