@@ -2,6 +2,7 @@
 
 ghost use Rattle.std.specs.Prelude.{◌≡◌, IfOk};
 ghost use Rattle.std.specs.List.{list_any};
+ghost use Rattle.awk_kinds.specs.definitions.SpecialNames.{special_scalars};
 ghost use Rattle.awk_kinds.specs.support.Arrays.{is_marked};
 ghost use Rattle.awk_kinds.specs.support.Misuses.{as_scalar, any_scalar};
 ghost use Rattle.awk_kinds.specs.support.Mixed.{is_marked_global, is_marked_parameter, passes_marked, lacks_array, mixes};
@@ -29,6 +30,13 @@ fn any_global_array(
         }
     }
     Ok(false)
+}
+
+/// Whether one of awk's own scalars is an array.
+fn any_special_array(alloc: Global, arrays: &Arrays) -> Result<bool, AllocError>
+    ensures { IfOk result (λ answer. answer ≡ list_any (is_marked_global arrays.now) special_scalars) }
+{
+    any_global_array(alloc, &OWN_VARIABLES[ARRAY_COUNT..], arrays)
 }
 
 fn is_scalar_array(name: &NameUse, arrays: &Arrays) -> bool
@@ -133,7 +141,7 @@ pub(crate) fn mixes_kinds(
 ) -> Result<bool, AllocError>
     ensures { IfOk result (λ answer. answer ≡ mixes functions.now arrays.now uses.now.arrays.items uses.now.names.items) }
 {
-    if any_global_array(alloc, &OWN_VARIABLES[ARRAY_COUNT..], arrays)? {
+    if any_special_array(alloc, arrays)? {
         return Ok(true);
     }
     if any_scalar_array(&uses.names, arrays) {

@@ -4,6 +4,7 @@ ghost use Rattle.std.specs.Prelude.{◌≡◌, ◌↔◌, ℕ, List, Some, bytes
 ghost use Rattle.std.specs.List.{list_any};
 ghost use Rattle.std.specs.Option.{option_map};
 ghost use Rattle.awk_kinds.specs.definitions.Fits.{is_special};
+ghost use Rattle.awk_kinds.specs.support.SpecialIndices.{kept, names_in, named_by};
 
 /// The special variables that a run keeps by itself (NF is counted in the record). (POSIX awk,
 /// Variables and Special Variables)
@@ -122,6 +123,23 @@ pub fn is_special(name: &[u8]) -> bool
     is_among(&OWN_VARIABLES, name)
 }
 
+/// The variable that a run keeps by itself, if this is one.
+fn kept(own: Option<OwnVariable>) -> Option<Special>
+    ensures { result ≡ kept own }
+{
+    match own {
+        Some(OwnVariable::Kept(special, _)) => Some(special),
+        Some(OwnVariable::Array | OwnVariable::FieldCount) | None => None,
+    }
+}
+
+/// The variable of a name that has one of these rows, if a run keeps it by itself.
+fn kept_among(rows: &[(&[u8], OwnVariable)], name: &[u8]) -> Option<Special>
+    ensures { result ≡ named_by (names_in rows.now) name.now }
+{
+    kept(look_up(rows, name))
+}
+
 impl Special {
     ghost use Rattle.awk_kinds.specs.definitions.Variables.{name_of};
     ghost use Rattle.awk_kinds.specs.support.SpecialIndices.{index_of, special_named};
@@ -131,10 +149,7 @@ impl Special {
         ensures named { result ≡ special_named name.now }
         ensures names { (s : Special) → (result ≡ Some s) ↔ (name.now ≡ name_of s) }
     {
-        match look_up(&OWN_VARIABLES, name) {
-            Some(OwnVariable::Kept(special, _)) => Some(special),
-            _ => None,
-        }
+        kept_among(&OWN_VARIABLES, name)
     }
 
     /// Where it stands among them.

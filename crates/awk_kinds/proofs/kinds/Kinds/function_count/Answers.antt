@@ -4,4 +4,4 @@ use Rattle.awk_kinds.proofs.Tabled.{signatures_long}
 use Rattle.awk_kinds.proofs.kinds.Kinds.function_count.Goals as goal
 
 pub returns : goal.returns
-returns c = c.len.ensures ∙ signatures_long c.self.inside.functions c.self.inside.parameters.items c.self.invariant ∙ ap (λ (k : ProgramKinds). length k.functions) c.self.view_is
+returns c = c.len.ensures.len ∙ signatures_long c.self.inside.functions c.self.inside.parameters.items c.self.invariant ∙ ap (λ (k : ProgramKinds). length k.functions) c.self.view_is

@@ -55,7 +55,7 @@ loop-item-preserved c =
           items_around all i x c.loop-item-test.true c.item-item.is ∙ ap (λ y. before ++ (y ∷ items_of (drop (i + 1) all))) is in
           let absent : has_name (names_defined before) f ≡ false = name_new (items_of all) before (items_of (drop (i + 1) all)) f ps block split c.requires.fits in
           record {
-            functions = w.functions-is ∙ w.in_ok-add.ensures ∙ ap (λ ns. with_name ns w.as_slice.result.now) c.loop-item.invariant.functions ∙ ap (with_name (names_defined before)) w.as_slice.ensures
+            functions = w.functions-is ∙ w.in_ok-add.ensures.names ∙ ap (λ ns. with_name ns w.as_slice.result.now) c.loop-item.invariant.functions ∙ ap (with_name (names_defined before)) w.as_slice.ensures
                 ∙ put_last (names_defined before) f absent ∙ sym (names ∙ ap (λ y. names_defined before ++ names_defined (y ∷ [])) is);
             parameters = ap (λ v. v.items) w.parameters-is ∙ w.in_ok-push.ensures.items ∙ ap (λ ls. ls ++ w.in_ok-of.field-0 ∷ []) c.loop-item.invariant.parameters
                 ∙ ap (λ l. marked_parameters arrays before ++ l ∷ []) (w.in_ok-of.ensures ∙ ap (map (marked_formal arrays f)) w.deref.ensures.value)

@@ -33,4 +33,4 @@ returns-clause-number c =
     numbers_new c.args.self.now _ c.in-Ok.number c.args.name.now
     (ap (λ names. has_name names c.args.name.now) (sym c.self.view_is) ∙ any_map (λ (l : Vec ℕ). l.items) (bytes_eq c.args.name.now) ks ∙ sym c.in_default.ensures.found)
     (returns-clause-names c)
-    (c.in-Ok.ensures ∙ c.len.ensures.len ∙ (sym (length-map ks (λ (k : Vec ℕ). k.items)) ∙ ap length c.self.view_is))
+    (c.in-Ok.ensures.1 ∙ c.len.ensures.len ∙ (sym (length-map ks (λ (k : Vec ℕ). k.items)) ∙ ap length c.self.view_is))

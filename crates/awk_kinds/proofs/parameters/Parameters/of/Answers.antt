@@ -20,7 +20,7 @@ loop-x-preserved c =
     let absent : has_name (take i all) x ≡ false = not_before (take i all) (drop (i + 1) all) x (ap has_repeat (sym (around all i x c.loop-x-test.true c.x-item.is)) ∙ c.requires) in
     let marked : c.has.result ≡ is_marked_in arrays f x = c.has.ensures ∙ ap (λ g. is_marked arrays (Parameter g c.in_ok-clone-2.field-0)) c.in_ok-clone.ensures.cases ∙ ap (λ y. is_marked arrays (Parameter f y)) c.in_ok-clone-2.ensures.cases in
     record {
-      names = c.in_ok-add.ensures ∙ ap (λ names. with_name names c.as_slice.result.now) c.loop-x.invariant.names ∙ ap (with_name (take i all)) c.as_slice.ensures ∙ put_last (take i all) x absent ∙ sym more;
+      names = c.in_ok-add.ensures.names ∙ ap (λ names. with_name names c.as_slice.result.now) c.loop-x.invariant.names ∙ ap (with_name (take i all)) c.as_slice.ensures ∙ put_last (take i all) x absent ∙ sym more;
       kinds = c.in_ok-push.ensures.items ∙ ap (λ bs. bs ++ c.has.result ∷ []) c.loop-x.invariant.kinds ∙ ap (λ b. map (is_marked_in arrays f) (take i all) ++ b ∷ []) marked
           ∙ sym (map-append (is_marked_in arrays f) (take i all) (x ∷ [])) ∙ ap (map (is_marked_in arrays f)) (sym more);
     }
