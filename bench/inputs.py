@@ -41,6 +41,7 @@ class Rules(Choices):
     before it; `said` writes a statement of the kind that a program is written for."""
 
     variables = []
+    arrays = ["p", "q"]
 
     def __init__(self, numbers):
         super().__init__(numbers)
@@ -50,15 +51,37 @@ class Rules(Choices):
     # What a record gives.
 
     def variable(self, known):
+        known = [name for name in known if name not in self.arrays]
         return self.pick(self.variables if self.is_careless and self.chance(6) else known or ["unset"])
+
+    def array(self, known):
+        known = [name for name in known if name in self.arrays]
+        return self.pick(self.arrays) if self.is_careless and self.chance(6) else self.pick(known) if known else None
+
+    def subscript(self, known):
+        return self.pick(["1", "2", "$1", "$1, $2", "NF", '"a"', self.variable(known)])
+
+    def element(self, known):
+        """An element of an array that was filled, or a field for want of one."""
+        array = self.array(known)
+        return f"{array}[{self.subscript(known)}]" if array else "$2"
+
+    def asked(self, known):
+        """What is asked of an array that was filled."""
+        array = self.array(known)
+        if array is None:
+            return "NF"
+        return self.pick([f"length({array})", f"({self.pick(['1', '$1', 'NF'])} in {array})", f"(($1, $2) in {array})", f"{array}[{self.subscript(known)}]"])
 
     def place(self, known):
         """What may be changed: not what a loop counts by."""
+        if self.array(known) and self.chance(3):
+            return self.element(known)
         known = [name for name in known if name in self.variables]
         return self.variable(known) if known and not self.chance(3) else self.pick(["$1", "$2", "$NF", "$0", "NF"])
 
     def value(self, known, depth=2):
-        kind, less = self.numbers.randrange(15 if depth > 0 else 7), depth - 1
+        kind, less = self.numbers.randrange(17 if depth > 0 else 7), depth - 1
         if kind < 2:
             return f"${self.numbers.randint(0, 4)}"
         if kind < 5:
@@ -79,6 +102,8 @@ class Rules(Choices):
             return f"({self.test(known, less)} ? {self.value(known, less)} : {self.value(known, less)})"
         if kind == 13:
             return self.exchange(known)
+        if kind < 16:
+            return self.asked(known)
         return self.change(known, True)
 
     def test(self, known, depth=1):
@@ -101,6 +126,20 @@ class Rules(Choices):
     def setting(self, known):
         name = self.pick(self.variables)
         return f"{name} = {self.value(known)}", name
+
+    def filling(self, known):
+        """Also into a variable, which is set where it is known already."""
+        array = self.pick(self.arrays)
+        if self.chance(3):
+            return f"delete {array}", array
+        separator = self.pick(["", ', ":"', ", /[ab]/", ", $1", f", {self.value(known, 0)}"])
+        call = f"split({self.value(known, 1)}, {array}{separator})"
+        variables = [name for name in known if name in self.variables]
+        return (f"{self.pick(variables)} = {call}" if variables and self.chance(2) else call), array
+
+    def deleting(self, known):
+        array = self.array(known)
+        return f"delete {array}[{self.subscript(known)}]" if array else self.said(known)
 
     def loop(self, known, depth):
         """Each has a variable of its own, so that it ends."""
@@ -128,6 +167,10 @@ class Rules(Choices):
 
     def statement(self, known, depth, in_loop=False):
         kind = self.numbers.randrange(12 if depth > 0 else 7)
+        if self.chance(6):
+            return self.filling(known)
+        if self.chance(15):
+            return self.deleting(known), None
         if kind < 2:
             return self.setting(known)
         if kind < 4:

@@ -4,6 +4,7 @@ use Rattle.std.proofs.lemmas.Bool.{cases_Bool, cond-false}
 use Rattle.std.proofs.lemmas.Slice.Eq.{bytes_eq-Decides}
 use Rattle.awk_value.specs.declared.value.Value.{Value}
 use Rattle.awk_value.specs.declared.value.Value.TheVariants as value
+use Rattle.awk_value.specs.Arrays.{Array}
 use Rattle.awk_record.specs.definitions.Record.{RecordPair}
 use Rattle.awk_lex.specs.Escapes.{unescaped}
 use Rattle.awk_lex.specs.declared.token.AssignmentOperator.{AssignmentOperator}
@@ -21,7 +22,7 @@ use Rattle.awk_semantics.specs.definitions.Items.{run_action, begin_item, begin_
 use Rattle.awk_semantics.specs.definitions.Meaning.{assign_all}
 use Rattle.awk_pieces.specs.definitions.Pieceable.{leaves_records, no_own, keeps_to_record, is_plain, may_be_set, is_setting, is_simple_setting, only_sets, all_only_set, is_rule_for_itself, are_rules_for_themselves}
 use Rattle.awk_pieces.specs.definitions.LawOfPieces.{all_leave_records}
-use Rattle.awk_pieces.proofs.Alike.{Outer, Names, OwnsSeparators, Sorts, SetsApart, Values, state_on, SameKinds, own_kinds, AgreeOn, Covers, Alike, then_alike}
+use Rattle.awk_pieces.proofs.Alike.{Outer, Names, OwnsSeparators, Sorts, SetsApart, Values, state_on, with_arrays, SameKinds, own_kinds, AgreeOn, Agrees, unmoved_arrays, Covers, Alike, then_alike}
 use Rattle.awk_pieces.proofs.ReadsAlike.{left_true, right_true, unmoved, ret_alike, spend_alike, name_alike}
 use Rattle.awk_pieces.proofs.ExpressionsAlike.{expression_alike}
 use Rattle.awk_pieces.proofs.ValuesAndFaults.{IsValueOrFault}
@@ -31,14 +32,14 @@ all_names x = true
 
 -- before the records both sides have the same variables, and those that may not be set keep their values
 abbrev pub first_sorts : Names → Sorts
-first_sorts may = record { kept = λ x. not (may x); shared = all_names; own = no_own; shows = false }
+first_sorts may = record { kept = λ x. not (may x); shared = all_names; own = no_own; arrays = no_own; shows = false }
 
 -- where there are no variables of the record
 pub none_apart : (may : Names) → SetsApart (first_sorts may)
 none_apart may = record { count = λ x own. absurd (cc); kept = λ x z own kept. absurd (cc) }
 
 all_owned : OwnsSeparators all_names
-all_owned = record { fs = refl; rs = refl; ofs = refl; ors = refl }
+all_owned = record { fs = refl; rs = refl; ofs = refl; ors = refl; subsep = refl }
 
 pub none_true : (b : Bool) → b ≡ true → not b ≡ true → ⊥
 none_true true e f = cc
@@ -94,21 +95,47 @@ pub record SameNames (s t : State) : Type 0 where
 pub own_names : (s : State) → SameNames s s
 own_names s = record { kinds = own_kinds all_names s; unassignable = λ x. refl }
 
+-- what both sides begin with agrees
+pub first_agrees : (may : Names) (base base' : State) (v w : Values) → SameNames base base' → AgreeOn all_names v w → Agrees (first_sorts may) all_names base base' base.arrays base'.arrays v w
+first_agrees may base base' v w names agrees = record {
+  values = agrees;
+  unset = λ x is. absurd (cc);
+  kinds = λ x is. record { named = (names.kinds x refl).named; same = (names.kinds x refl).same };
+  sized = λ x is. absurd (cc);
+}
+
 module _ (may : Names) (narrow : (x : List ℕ) → may x ≡ true → leaves_records x ≡ true) (base base' : State) (names : SameNames base base') where
   abbrev Begins : {A : Type 0} → Run A → Run A → Type 0
   Begins m n = Alike (first_sorts may) all_names all_names base base' m n
 
-  put_covers : (refused : Bool) (x : List ℕ) (a : Value) (o p : Outer) (c : RecordPair) (v w : Values) (k d : ℕ) → may x ≡ true → AgreeOn all_names v w → Covers (first_sorts may) all_names base base' o p v w k d (put_unless refused x a (state_on base o c v k)).result (put_unless refused x a (state_on base o c v k)) (put_unless refused x a (state_on base' p c w (k + d)))
-  put_covers true x a o p c v w k d leaves agrees = tt
-  put_covers false x a o p c v w k d leaves agrees = record { pair = c; left = k; here = with_value v x a; there = with_value w x a; agrees = set_agrees x a v w agrees; keeps = set_keeps may x a v leaves; keeps_there = set_keeps may x a w leaves; falls = le_refl _; is_here = refl; is_there = refl; plain = refl }
+  put_covers : (refused : Bool) (x : List ℕ) (a : Value) (o p : Outer) (c : RecordPair) (arrays arrays' : List Array) (v w : Values) (k d : ℕ) → may x ≡ true → Agrees (first_sorts may) all_names base base' arrays arrays' v w →
+      Covers (first_sorts may) all_names base base' o p arrays arrays' v w k d (put_unless refused x a (state_on (with_arrays base arrays) o c v k)).result (put_unless refused x a (state_on (with_arrays base arrays) o c v k)) (put_unless refused x a (state_on (with_arrays base' arrays') p c w (k + d)))
+  put_covers true x a o p c arrays arrays' v w k d leaves agrees = tt
+  put_covers false x a o p c arrays arrays' v w k d leaves agrees = record {
+    pair = c;
+    left = k;
+    arrays_here = arrays;
+    arrays_there = arrays';
+    here = with_value v x a;
+    there = with_value w x a;
+    agrees = record { values = set_agrees x a v w agrees.values; unset = λ z is. absurd (cc); kinds = agrees.kinds; sized = agrees.sized };
+    keeps = set_keeps may x a v leaves;
+    keeps_there = set_keeps may x a w leaves;
+    moves = unmoved_arrays (first_sorts may) base arrays;
+    moves_there = unmoved_arrays (first_sorts may) base' arrays';
+    falls = le_refl _;
+    is_here = refl;
+    is_there = refl;
+    plain = refl;
+  }
 
   put_outside_alike : (x : List ℕ) (a : Value) → may x ≡ true → Begins (put_outside x a) (put_outside x a)
   unfolding put_outside
-  put_outside_alike x a leaves = record { covers = λ o p c v w k d agrees. rw (is_no_count x (narrow x leaves)) (put_covers (is_refused x a) x a o p c v w k d leaves agrees) }
+  put_outside_alike x a leaves = record { covers = λ o p c arrays arrays' v w k d agrees. rw (is_no_count x (narrow x leaves)) (put_covers (is_refused x a) x a o p c arrays arrays' v w k d leaves agrees) }
 
   put_alike : (x : List ℕ) (a : Value) → may x ≡ true → Begins (put x a) (put x a)
   unfolding put
-  put_alike x a leaves = record { covers = λ o p c v w k d agrees. (put_outside_alike x a leaves).covers o p c v w k d agrees }
+  put_alike x a leaves = record { covers = λ o p c arrays arrays' v w k d agrees. (put_outside_alike x a leaves).covers o p c arrays arrays' v w k d agrees }
 
   assign_by_alike : (x : List ℕ) (a : Value) → may x ≡ true → Begins (assign_by None (AName x) a) (assign_by None (AName x) a)
   unfolding assign_by assign store read_place
@@ -126,7 +153,7 @@ module _ (may : Names) (narrow : (x : List ℕ) → may x ≡ true → leaves_re
 
   check_alike : (x text : List ℕ) → Begins (check_assignment x text) (check_assignment x text)
   unfolding check_assignment
-  check_alike x text = record { covers = λ o p c v w k d agrees. rw (names.unassignable x) (unmoved (first_sorts may) all_names base base' o p c v w k d [] (assigned_text (is_unassignable base x) text) (assigned_faults (is_unassignable base x) text) refl agrees) }
+  check_alike x text = record { covers = λ o p c arrays arrays' v w k d agrees. rw (names.unassignable x) (unmoved (first_sorts may) all_names base base' o p c arrays arrays' v w k d [] (assigned_text (is_unassignable base x) text) (assigned_faults (is_unassignable base x) text) refl agrees) }
 
   assign_text_alike : (x text : List ℕ) → may x ≡ true → Begins (assign_text x text) (assign_text x text)
   unfolding assign_text
@@ -139,11 +166,11 @@ module _ (may : Names) (narrow : (x : List ℕ) → may x ≡ true → leaves_re
 
   -- the actions of BEGIN
   module _ (f g : Functions) where
-    set_alike : (x : List ℕ) (e : Expr) → may x ≡ true → keeps_to_record no_own all_names e ≡ true → Begins (eval f (Assign assignment.Plain (Name x) e)) (eval g (Assign assignment.Plain (Name x) e))
+    set_alike : (x : List ℕ) (e : Expr) → may x ≡ true → keeps_to_record no_own no_own all_names e ≡ true → Begins (eval f (Assign assignment.Plain (Name x) e)) (eval g (Assign assignment.Plain (Name x) e))
     unfolding eval lift ◌>>=◌ go_on
-    set_alike x e leaves is = record { covers = λ o p c v w k d agrees. (then_alike _ _ (expression_alike (first_sorts may) (none_apart may) all_names base base' names.kinds all_owned f g e is) (λ a. assign_by_alike x a leaves)).covers o p c v w k d agrees }
+    set_alike x e leaves is = record { covers = λ o p c arrays arrays' v w k d agrees. (then_alike _ _ (expression_alike (first_sorts may) (none_apart may) all_names base base' all_owned f g e is) (λ a. assign_by_alike x a leaves)).covers o p c arrays arrays' v w k d agrees }
 
-    place_alike : (place e : Expr) → MayPlace may place → (may_be_set place && keeps_to_record no_own all_names e) ≡ true → Begins (eval f (Assign assignment.Plain place e)) (eval g (Assign assignment.Plain place e))
+    place_alike : (place e : Expr) → MayPlace may place → (may_be_set place && keeps_to_record no_own no_own all_names e) ≡ true → Begins (eval f (Assign assignment.Plain place e)) (eval g (Assign assignment.Plain place e))
     place_alike (Name x) e set is = set_alike x e set (right_true (leaves_records x) _ is)
     place_alike (Number n) e set is = absurd (cc)
     place_alike (String bytes) e set is = absurd (cc)
@@ -165,7 +192,7 @@ module _ (may : Names) (narrow : (x : List ℕ) → may x ≡ true → leaves_re
     place_alike (Conditional c a b) e set is = absurd (cc)
     place_alike (Assign c p a) e set is = absurd (cc)
 
-    operator_alike : (operator : AssignmentOperator) (place e : Expr) → MayPlace may place → (is_plain operator && (may_be_set place && keeps_to_record no_own all_names e)) ≡ true → Begins (eval f (Assign operator place e)) (eval g (Assign operator place e))
+    operator_alike : (operator : AssignmentOperator) (place e : Expr) → MayPlace may place → (is_plain operator && (may_be_set place && keeps_to_record no_own no_own all_names e)) ≡ true → Begins (eval f (Assign operator place e)) (eval g (Assign operator place e))
     operator_alike assignment.Plain place e set is = place_alike place e set is
     operator_alike assignment.Add place e set is = absurd (cc)
     operator_alike assignment.Subtract place e set is = absurd (cc)
@@ -266,16 +293,16 @@ module _ (base base' : State) (names : SameNames base base') (f g : Functions) w
   abbrev Leaves : {A : Type 0} → Run A → Run A → Type 0
   Leaves m n = Alike (first_sorts leaves_records) all_names all_names base base' m n
 
-  begin_item_alike : (own known : Names) (x : Item) → is_rule_for_itself own known x ≡ true → Leaves (begin_item f x) (begin_item g x)
+  begin_item_alike : (own arrays known : Names) (x : Item) → is_rule_for_itself own arrays known x ≡ true → Leaves (begin_item f x) (begin_item g x)
   unfolding begin_item
-  begin_item_alike own known (Begin block) is = block_alike leaves_records (λ x is. is) base base' names f g block (leaves_all block is) is
-  begin_item_alike own known (Action block) is = ret_alike (first_sorts leaves_records) all_names base base' tt
-  begin_item_alike own known (PatternAction p block) is = ret_alike (first_sorts leaves_records) all_names base base' tt
-  begin_item_alike own known (PatternOnly p) is = ret_alike (first_sorts leaves_records) all_names base base' tt
-  begin_item_alike own known (End block) is = absurd (cc)
-  begin_item_alike own known (Function name parameters block) is = absurd (cc)
+  begin_item_alike own arrays known (Begin block) is = block_alike leaves_records (λ x is. is) base base' names f g block (leaves_all block is) is
+  begin_item_alike own arrays known (Action block) is = ret_alike (first_sorts leaves_records) all_names base base' tt
+  begin_item_alike own arrays known (PatternAction p block) is = ret_alike (first_sorts leaves_records) all_names base base' tt
+  begin_item_alike own arrays known (PatternOnly p) is = ret_alike (first_sorts leaves_records) all_names base base' tt
+  begin_item_alike own arrays known (End block) is = absurd (cc)
+  begin_item_alike own arrays known (Function name parameters block) is = absurd (cc)
 
-  pub begin_items_alike : (own known : Names) (xs : List Item) → are_rules_for_themselves own known xs ≡ true → Leaves (begin_items f xs) (begin_items g xs)
+  pub begin_items_alike : (own arrays known : Names) (xs : List Item) → are_rules_for_themselves own arrays known xs ≡ true → Leaves (begin_items f xs) (begin_items g xs)
   unfolding begin_items
-  begin_items_alike own known [] is = ret_alike (first_sorts leaves_records) all_names base base' tt
-  begin_items_alike own known (x ∷ xs) is = then_alike _ _ (begin_item_alike own known x (left_true (is_rule_for_itself own known x) _ is)) (λ _. begin_items_alike own known xs (right_true (is_rule_for_itself own known x) _ is))
+  begin_items_alike own arrays known [] is = ret_alike (first_sorts leaves_records) all_names base base' tt
+  begin_items_alike own arrays known (x ∷ xs) is = then_alike _ _ (begin_item_alike own arrays known x (left_true (is_rule_for_itself own arrays known x) _ is)) (λ _. begin_items_alike own arrays known xs (right_true (is_rule_for_itself own arrays known x) _ is))

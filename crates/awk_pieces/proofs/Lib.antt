@@ -1,4 +1,5 @@
 pub mod Alike
+pub mod ArraysAlike
 pub mod BeginsAlike
 pub mod CallsAlike
 pub mod ExpressionsAlike

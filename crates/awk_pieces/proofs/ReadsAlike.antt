@@ -1,8 +1,9 @@
 -- What only reads, and what is made of it, does alike.
-use Rattle.std.proofs.Common.{◌≡◌, ℕ, zero, suc, ◌+◌, Bool, true, false, ◌&&◌, List, [], ◌∷◌, Result, Ok, Err, pos, ℤ, refl, le_refl, arith, cond, codes, bytes_eq, length}
+use Rattle.std.proofs.Common.{◌≡◌, ℕ, zero, suc, ◌+◌, Bool, true, false, ◌&&◌, ◌||◌, List, [], ◌∷◌, Result, Ok, Err, pos, ℤ, refl, le_refl, arith, cond, codes, bytes_eq, length}
 use Rattle.awk_value.specs.declared.value.Value.{Value}
 use Rattle.awk_value.specs.declared.value.Value.TheVariants as value
 use Rattle.awk_value.specs.Values.{truth_of, num_of}
+use Rattle.awk_value.specs.Arrays.{Array}
 use Rattle.awk_record.specs.definitions.Record.{RecordPair, field_of}
 use Rattle.awk_lex.specs.declared.token.BuiltIn.TheVariants as built_in
 use Rattle.awk_lex.specs.declared.token.Operator.TheVariants as o
@@ -18,12 +19,16 @@ use Rattle.awk_semantics.specs.definitions.Faults.{of_values, of_record}
 use Rattle.awk_semantics.specs.definitions.Primitives.{spend, spend_of, number_of, read_field, record_text, read_name, is_array, number_in, array_in, array_length, array_length_at}
 use Rattle.awk_semantics.specs.definitions.BuiltIns.{applied_all, record_length}
 use Rattle.awk_semantics.specs.definitions.Semantics.{right_operand, tested, choose, combined}
-use Rattle.awk_pieces.proofs.Alike.{Outer, Names, Sorts, Values, state_on, SameKind, AgreeOn, AreShown, shown_none, Same, Covers, Alike, AlikeWith, then_alike}
+use Rattle.awk_pieces.proofs.Alike.{Outer, Names, Sorts, Values, state_on, with_arrays, array_of, Agrees, unmoved_arrays, AreShown, shown_none, Same, Covers, Alike, AlikeWith, then_alike}
 use Rattle.awk_pieces.proofs.ValuesAndFaults.{IsValueOrFault, of_values_faults, of_record_faults, applied_faults, applied_all_faults}
 
 pub left_true : (a b : Bool) → (a && b) ≡ true → a ≡ true
 left_true true b e = refl
 left_true false b e = e
+
+pub or_left : (a b : Bool) → a ≡ true → (a || b) ≡ true
+or_left true b e = refl
+or_left false b e = absurd (cc)
 
 pub right_true : (a b : Bool) → (a && b) ≡ true → b ≡ true
 right_true true b e = e
@@ -34,16 +39,16 @@ module _ (sorts : Sorts) (known : Names) (base base' : State) where
   abbrev pub Reads : {A : Type 0} → Run A → Run A → Type 0
   Reads m n = Alike sorts known known base base' m n
 
-  pub unmoved : {A : Type 0} (o p : Outer) (c : RecordPair) (v w : Values) (k d : ℕ) (effects : List Effect) (r : Result A Halt) → IsValueOrFault r → AreShown sorts.shows effects → AgreeOn known v w → Covers sorts known base base' o p v w k d r (record { result = r; state = state_on base o c v k; effects = effects }) (record { result = r; state = state_on base' p c w (k + d); effects = effects })
-  unmoved o p c v w k d effects (Ok a) is plain agrees = record { pair = c; left = k; here = v; there = w; agrees = agrees; keeps = λ x e. refl; keeps_there = λ x e. refl; falls = le_refl _; is_here = refl; is_there = refl; plain = plain }
-  unmoved o p c v w k d effects (Err (halt.Fault f)) is plain agrees = tt
-  unmoved o p c v w k d effects (Err halt.OutOfSteps) is plain agrees = absurd is
-  unmoved o p c v w k d effects (Err halt.Next) is plain agrees = absurd is
-  unmoved o p c v w k d effects (Err halt.Exit) is plain agrees = absurd is
+  pub unmoved : {A : Type 0} (o p : Outer) (c : RecordPair) (arrays arrays' : List Array) (v w : Values) (k d : ℕ) (effects : List Effect) (r : Result A Halt) → IsValueOrFault r → AreShown sorts.shows effects → Agrees sorts known base base' arrays arrays' v w → Covers sorts known base base' o p arrays arrays' v w k d r (record { result = r; state = state_on (with_arrays base arrays) o c v k; effects = effects }) (record { result = r; state = state_on (with_arrays base' arrays') p c w (k + d); effects = effects })
+  unmoved o p c arrays arrays' v w k d effects (Ok a) is plain agrees = record { pair = c; left = k; arrays_here = arrays; arrays_there = arrays'; here = v; there = w; agrees = agrees; keeps = λ x e. refl; keeps_there = λ x e. refl; moves = unmoved_arrays sorts base arrays; moves_there = unmoved_arrays sorts base' arrays'; falls = le_refl _; is_here = refl; is_there = refl; plain = plain }
+  unmoved o p c arrays arrays' v w k d effects (Err (halt.Fault f)) is plain agrees = tt
+  unmoved o p c arrays arrays' v w k d effects (Err halt.OutOfSteps) is plain agrees = absurd is
+  unmoved o p c arrays arrays' v w k d effects (Err halt.Next) is plain agrees = absurd is
+  unmoved o p c arrays arrays' v w k d effects (Err halt.Exit) is plain agrees = absurd is
 
   pub lift_alike : {A : Type 0} (r : Result A Halt) → IsValueOrFault r → Reads (lift r) (lift r)
   unfolding lift
-  lift_alike r is = record { covers = λ o p c v w k d agrees. unmoved o p c v w k d [] r is (shown_none sorts.shows) agrees }
+  lift_alike r is = record { covers = λ o p c arrays arrays' v w k d agrees. unmoved o p c arrays arrays' v w k d [] r is (shown_none sorts.shows) agrees }
 
   pub ret_alike : {A : Type 0} (a : A) → Reads (ret a) (ret a)
   ret_alike a = lift_alike (Ok a) tt
@@ -52,39 +57,44 @@ module _ (sorts : Sorts) (known : Names) (base base' : State) where
   unfolding lift
   ret_with a p = record { alike = ret_alike a; holds = λ s. p }
 
-  fewer : (o p : Outer) (c : RecordPair) (v w : Values) (k d : ℕ) → AgreeOn known v w → Same {A = Unit {0}} sorts known base base' o p v w (suc k) d (gives (tt {0}) (state_on base o c v k)) (gives (tt {0}) (state_on base' p c w (k + d)))
-  fewer o p c v w k d agrees = record { pair = c; left = k; here = v; there = w; agrees = agrees; keeps = λ x e. refl; keeps_there = λ x e. refl; falls = omega arith; is_here = refl; is_there = refl; plain = shown_none sorts.shows }
+  fewer : (o p : Outer) (c : RecordPair) (arrays arrays' : List Array) (v w : Values) (k d : ℕ) → Agrees sorts known base base' arrays arrays' v w → Same {A = Unit {0}} sorts known base base' o p arrays arrays' v w (suc k) d (gives (tt {0}) (state_on (with_arrays base arrays) o c v k)) (gives (tt {0}) (state_on (with_arrays base' arrays') p c w (k + d)))
+  fewer o p c arrays arrays' v w k d agrees = record { pair = c; left = k; arrays_here = arrays; arrays_there = arrays'; here = v; there = w; agrees = agrees; keeps = λ x e. refl; keeps_there = λ x e. refl; moves = unmoved_arrays sorts base arrays; moves_there = unmoved_arrays sorts base' arrays'; falls = omega arith; is_here = refl; is_there = refl; plain = shown_none sorts.shows }
 
-  spend_covers : (o p : Outer) (c : RecordPair) (v w : Values) (k d : ℕ) → AgreeOn known v w → Covers sorts known base base' o p v w k d (spend_of k (state_on base o c v k)).result (spend_of k (state_on base o c v k)) (spend_of (k + d) (state_on base' p c w (k + d)))
-  spend_covers o p c v w zero d agrees = tt
-  spend_covers o p c v w (suc k) d agrees = let e : suc k + d ≡ suc (k + d) = omega arith in rw e (fewer o p c v w k d agrees)
+  spend_covers : (o p : Outer) (c : RecordPair) (arrays arrays' : List Array) (v w : Values) (k d : ℕ) → Agrees sorts known base base' arrays arrays' v w → Covers sorts known base base' o p arrays arrays' v w k d (spend_of k (state_on (with_arrays base arrays) o c v k)).result (spend_of k (state_on (with_arrays base arrays) o c v k)) (spend_of (k + d) (state_on (with_arrays base' arrays') p c w (k + d)))
+  spend_covers o p c arrays arrays' v w zero d agrees = tt
+  spend_covers o p c arrays arrays' v w (suc k) d agrees = let e : suc k + d ≡ suc (k + d) = omega arith in rw e (fewer o p c arrays arrays' v w k d agrees)
 
   pub spend_alike : Reads spend spend
   unfolding spend
-  spend_alike = record { covers = λ o p c v w k d agrees. spend_covers o p c v w k d agrees }
+  spend_alike = record { covers = λ o p c arrays arrays' v w k d agrees. spend_covers o p c arrays arrays' v w k d agrees }
 
   pub text_alike : Reads record_text record_text
   unfolding record_text
-  text_alike = record { covers = λ o p c v w k d agrees. unmoved o p c v w k d [] (Ok (value.Input c.text)) tt (shown_none sorts.shows) agrees }
+  text_alike = record { covers = λ o p c arrays arrays' v w k d agrees. unmoved o p c arrays arrays' v w k d [] (Ok (value.Input c.text)) tt (shown_none sorts.shows) agrees }
 
   pub name_alike : (x : List ℕ) → known x ≡ true → Reads (read_name x) (read_name x)
   unfolding read_name
-  name_alike x is = record { covers = λ o p c v w k d agrees. rw (agrees x is) (unmoved o p c v w k d [] (Ok (cond (bytes_eq x (codes "NF")) (value.Number (pos (length c.fields))) (v x))) tt (shown_none sorts.shows) agrees) }
+  name_alike x is = record { covers = λ o p c arrays arrays' v w k d agrees. rw (agrees.values x is) (unmoved o p c arrays arrays' v w k d [] (Ok (cond (bytes_eq x (codes "NF")) (value.Number (pos (length c.fields))) (v x))) tt (shown_none sorts.shows) agrees) }
+
+  -- a variable that has the name of an array of the record
+  pub unset_alike : (x : List ℕ) → sorts.arrays x ≡ true → Reads (read_name x) (read_name x)
+  unfolding read_name
+  unset_alike x is = record { covers = λ o p c arrays arrays' v w k d agrees. rw (agrees.unset x is) (unmoved o p c arrays arrays' v w k d [] (Ok (cond (bytes_eq x (codes "NF")) (value.Number (pos (length c.fields))) (v x))) tt (shown_none sorts.shows) agrees) }
 
   pub field_alike : (n : ℤ) → Reads (read_field n) (read_field n)
   unfolding read_field
-  field_alike n = record { covers = λ o p c v w k d agrees. unmoved o p c v w k d [] (of_record (field_of c n)) (of_record_faults (field_of c n)) (shown_none sorts.shows) agrees }
+  field_alike n = record { covers = λ o p c arrays arrays' v w k d agrees. unmoved o p c arrays arrays' v w k d [] (of_record (field_of c n)) (of_record_faults (field_of c n)) (shown_none sorts.shows) agrees }
 
   pub number_alike : (v : Value) → Reads (number_of v) (number_of v)
   number_alike v = lift_alike (of_values (num_of v)) (of_values_faults (num_of v))
 
-  pub is_array_alike : (x : List ℕ) → SameKind base base' x → Reads (is_array x) (is_array x)
+  pub is_array_alike : (x : List ℕ) → known x ≡ true → Reads (is_array x) (is_array x)
   unfolding is_array
-  is_array_alike x kind = record { covers = λ o p c v w k d agrees. rw kind.named (unmoved o p c v w k d [] (Ok (has_name base.array_names x)) tt (shown_none sorts.shows) agrees) }
+  is_array_alike x is = record { covers = λ o p c arrays arrays' v w k d agrees. rw (agrees.kinds x (or_left _ _ is)).named (unmoved o p c arrays arrays' v w k d [] (Ok (has_name base.array_names x)) tt (shown_none sorts.shows) agrees) }
 
-  pub array_length_alike : (x : List ℕ) → SameKind base base' x → Reads (array_length x) (array_length x)
+  pub array_length_alike : (x : List ℕ) → known x ≡ true → Reads (array_length x) (array_length x)
   unfolding array_length array_length_at
-  array_length_alike x kind = record { covers = λ o p c v w k d agrees. rw kind.count (unmoved o p c v w k d [] (Ok (length (array_in base (number_in base.array_names x)))) tt (shown_none sorts.shows) agrees) }
+  array_length_alike x is = record { covers = λ o p c arrays arrays' v w k d agrees. rw (agrees.kinds x (or_left _ _ is)).same (unmoved o p c arrays arrays' v w k d [] (Ok (length (array_of base arrays x))) tt (shown_none sorts.shows) agrees) }
 
   pub right_alike : (takes : Bool) (e : Expr) {m n : Run Value} → Reads m n → Reads (right_operand takes e m) (right_operand takes e n)
   right_alike true (Ere text) h = ret_alike _

@@ -7,6 +7,7 @@ use Rattle.awk_value.specs.Values.{num_of, str_of}
 use Rattle.awk_record.specs.declared.record_fault.RecordFault.{RecordFault}
 use Rattle.awk_ere.specs.Tree.{Tree}
 use Rattle.awk_ere.specs.Means.{pattern_of}
+use Rattle.awk_text.specs.declared.fault.TextFault.{TextFault}
 use Rattle.awk_text.specs.declared.format_fault.FormatFault.{FormatFault}
 use Rattle.awk_text.specs.Formatted.{formatted}
 use Rattle.awk_lex.specs.declared.token.BuiltIn.{BuiltIn as BuiltInName}
@@ -19,7 +20,8 @@ use Rattle.awk_semantics.specs.declared.halt.Halt.{Halt}
 use Rattle.awk_semantics.specs.declared.halt.Halt.TheVariants as halt
 use Rattle.awk_semantics.specs.definitions.Operators.{changed, pattern_or_fault, pattern_in, of_match, applied}
 use Rattle.awk_semantics.specs.definitions.Faults.{of_values, of_record}
-use Rattle.awk_semantics.specs.definitions.Texts.{of_format}
+use Rattle.awk_semantics.specs.definitions.Texts.{of_format, of_separator, ere_separator}
+use Rattle.awk_text.specs.definitions.Separators.{Separator}
 use Rattle.awk_semantics.specs.definitions.Primitives.{format_values}
 use Rattle.awk_semantics.specs.definitions.BuiltIns.{as_text, as_number, number_in_value, first_value, second_value, third_number, substr_by, applied_all}
 
@@ -44,6 +46,17 @@ of_format_faults (Err f) = tt
 pub pattern_faults : (o : Option Tree) → IsValueOrFault (pattern_or_fault o)
 pattern_faults None = tt
 pattern_faults (Some t) = tt
+
+pub separator_faults : (o : Result Separator TextFault) → IsValueOrFault (of_separator o)
+separator_faults (Ok x) = tt
+separator_faults (Err f) = tt
+
+pub ere_separator_faults : (r : Result Tree Halt) → IsValueOrFault r → IsValueOrFault (ere_separator r)
+ere_separator_faults (Ok t) p = tt
+ere_separator_faults (Err (halt.Fault n)) p = tt
+ere_separator_faults (Err halt.OutOfSteps) p = absurd p
+ere_separator_faults (Err halt.Next) p = absurd p
+ere_separator_faults (Err halt.Exit) p = absurd p
 
 match_faults : (f : Bool → Bool) (text : List ℕ) (r : Result Tree Halt) → IsValueOrFault r → IsValueOrFault (of_match f text r)
 match_faults f text (Ok t) p = tt

@@ -13,7 +13,8 @@ pub use expressions::{
 };
 pub use laws::law_of_pieces;
 pub use names::{
-    is_own, leaves_records, name_behind, name_set_first, names_set_in_rules, tells_apart,
+    arrays_filled_in_rules, is_own, leaves_records, name_behind, name_set_first,
+    names_set_in_rules, tells_apart,
 };
 pub use pieceable::is_pieceable;
 pub use readable::{Known, Readable};

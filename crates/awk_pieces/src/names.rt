@@ -5,12 +5,19 @@ ghost use Rattle.std.specs.Option.{option_map};
 ghost use Rattle.std.specs.List.{list_any};
 ghost use Rattle.awk_grammar.specs.View as g;
 ghost use Rattle.awk_kinds.specs.Names.{has_name};
-ghost use Rattle.awk_pieces.specs.definitions.Pieceable.{is_counter, is_of_start, tells_apart, is_setting_of_awk, leaves_records, name_of, name_set, name_set_by, name_set_first, name_behind, listed, names_set, all_names_set, names_set_in_rules, is_own};
+ghost use Rattle.awk_pieces.specs.definitions.Pieceable.{is_counter, is_of_start, tells_apart, is_setting_of_awk, leaves_records, name_of, name_set, name_set_by, name_set_first, name_behind, listed, array_split, array_filled_alone, array_filled, array_filled_by, array_filled_first, array_behind, name_by, name_first, names_in, all_names_in, names_in_rules, names_set_in_rules, arrays_filled_in_rules, is_own, is_own_variable, is_own_array};
 
 use awk_grammar::tree::{Expr, Item, SimpleStatement, Statement};
-use awk_lex::token::AssignmentOperator;
+use awk_lex::token::{AssignmentOperator, BuiltIn};
 use awk_value::Bytes;
 use std::alloc::{AllocError, Global};
+
+/// What rules set, or fill.
+#[derive(Clone, Copy)]
+pub(crate) enum Sort {
+    Variable,
+    Array,
+}
 
 /// Whether the variable tells where in the input a record stands.
 fn is_counter(name: &[u8]) -> bool
@@ -110,6 +117,86 @@ pub fn name_behind(s: &Statement) -> Option<&Bytes>
     }
 }
 
+/// The array that a call of `split` fills.
+fn array_split(arguments: &[Expr]) -> Option<&Bytes>
+    ensures { option_map (λ name. name.now) result ≡ array_split (g.exprs_of arguments.now) }
+{
+    match arguments.get(1) {
+        Some(place) => name_of(place),
+        None => None,
+    }
+}
+
+/// The array that an expression fills, where it is a call of `split`.
+fn array_filled_alone(e: &Expr) -> Option<&Bytes>
+    ensures { option_map (λ name. name.now) result ≡ array_filled_alone (g.expr_of e.now) }
+{
+    match e {
+        Expr::BuiltIn(BuiltIn::Split, arguments) => array_split(arguments),
+        _ => None,
+    }
+}
+
+/// The array that an expression fills, where it is a call of `split`, or assigns what that gives.
+fn array_filled(e: &Expr) -> Option<&Bytes>
+    ensures { option_map (λ name. name.now) result ≡ array_filled (g.expr_of e.now) }
+{
+    match e {
+        Expr::Assign(_, _, e) => array_filled_alone(e),
+        _ => array_filled_alone(e),
+    }
+}
+
+/// The array that a statement fills so, or empties.
+fn array_filled_by(simple: &SimpleStatement) -> Option<&Bytes>
+    ensures { option_map (λ name. name.now) result ≡ array_filled_by (g.simple_of simple.now) }
+{
+    match simple {
+        SimpleStatement::Expression(e) => array_filled(e),
+        SimpleStatement::DeleteAll(array) => Some(array),
+        _ => None,
+    }
+}
+
+/// The array that the first part of a `for` fills so, or empties.
+pub(crate) fn array_filled_first(first: &Option<SimpleStatement>) -> Option<&Bytes>
+    ensures { option_map (λ name. name.now) result ≡ array_filled_first (g.optional_simple_of first.now) }
+{
+    match first {
+        Some(simple) => array_filled_by(simple),
+        None => None,
+    }
+}
+
+/// The array that is filled so, or empty, behind a statement.
+pub(crate) fn array_behind(s: &Statement) -> Option<&Bytes>
+    ensures { option_map (λ name. name.now) result ≡ array_behind (g.statement_of s.now) }
+{
+    match s {
+        Statement::Simple(simple) => array_filled_by(simple),
+        Statement::For(parts, _) => array_filled_first(&parts.first),
+        _ => None,
+    }
+}
+
+fn name_by(by: Sort, simple: &SimpleStatement) -> Option<&Bytes>
+    ensures { option_map (λ name. name.now) result ≡ name_by by (g.simple_of simple.now) }
+{
+    match by {
+        Sort::Variable => name_set_by(simple),
+        Sort::Array => array_filled_by(simple),
+    }
+}
+
+fn name_first(by: Sort, first: &Option<SimpleStatement>) -> Option<&Bytes>
+    ensures { option_map (λ name. name.now) result ≡ name_first by (g.optional_simple_of first.now) }
+{
+    match first {
+        Some(simple) => name_by(by, simple),
+        None => None,
+    }
+}
+
 /// Adds a name, where there is one.
 pub(crate) fn add_name(names: &mut Vec<Bytes>, name: Option<&Bytes>) -> Result<(), AllocError>
     ensures { OnOk result (names.new.items ≡ names.old.items ++ listed (option_map (λ name. name.now) name.entry)) }
@@ -120,38 +207,52 @@ pub(crate) fn add_name(names: &mut Vec<Bytes>, name: Option<&Bytes>) -> Result<(
     Ok(())
 }
 
-/// Adds the names that a statement and those in it set.
+/// Adds the names that a statement and those in it set or fill.
 #[cycle(names)]
-fn add_names(names: &mut Vec<Bytes>, s: &Statement) -> Result<(), AllocError>
-    ensures { OnOk result (names.new.items ≡ names.old.items ++ names_set (g.statement_of s.now)) }
+fn add_names(names: &mut Vec<Bytes>, by: Sort, s: &Statement) -> Result<(), AllocError>
+    ensures { OnOk result (names.new.items ≡ names.old.items ++ names_in by (g.statement_of s.now)) }
 {
     match s {
-        Statement::Simple(simple) => add_name(names, name_set_by(simple)),
-        Statement::Block(all) => add_all_names(names, all),
-        Statement::If(_, s) | Statement::While(_, s) | Statement::Do(s, _) => add_names(names, s),
+        Statement::Simple(simple) => add_name(names, name_by(by, simple)),
+        Statement::Block(all) => add_all_names(names, by, all),
+        Statement::If(_, s) | Statement::While(_, s) | Statement::Do(s, _) => {
+            add_names(names, by, s)
+        }
         Statement::IfElse(_, s, other) => {
-            add_names(names, s)?;
-            add_names(names, other)
+            add_names(names, by, s)?;
+            add_names(names, by, other)
         }
         Statement::For(parts, s) => {
-            add_name(names, name_set_first(&parts.first))?;
-            add_names(names, s)
+            add_name(names, name_first(by, &parts.first))?;
+            add_names(names, by, s)
         }
         Statement::Empty | Statement::ForIn(_, _, _) => Ok(()),
     }
 }
 
 #[cycle(names)]
-fn add_all_names(names: &mut Vec<Bytes>, all: &[Statement]) -> Result<(), AllocError>
-    ensures { OnOk result (names.new.items ≡ names.old.items ++ all_names_set (g.statements_of all.now)) }
+fn add_all_names(names: &mut Vec<Bytes>, by: Sort, all: &[Statement]) -> Result<(), AllocError>
+    ensures { OnOk result (names.new.items ≡ names.old.items ++ all_names_in by (g.statements_of all.now)) }
 {
     for s in all {
-        add_names(names, s)?;
+        add_names(names, by, s)?;
     }
     Ok(())
 }
 
-/// The names that the rules of a program set by statements of their own, or as a loop begins.
+fn names_in_rules(alloc: Global, by: Sort, items: &[Item]) -> Result<Vec<Bytes>, AllocError>
+    ensures { IfOk result (λ names. names.items ≡ names_in_rules by (g.items_of items.now)) }
+{
+    let mut names = Vec::new(alloc);
+    for item in items {
+        if let Item::Action(block) | Item::PatternAction(_, block) = item {
+            add_all_names(&mut names, by, block)?;
+        }
+    }
+    Ok(names)
+}
+
+/// The variables that the rules of a program set by statements of their own, or as a loop begins.
 ///
 /// # Errors
 ///
@@ -159,13 +260,18 @@ fn add_all_names(names: &mut Vec<Bytes>, all: &[Statement]) -> Result<(), AllocE
 pub fn names_set_in_rules(alloc: Global, items: &[Item]) -> Result<Vec<Bytes>, AllocError>
     ensures { IfOk result (λ names. names.items ≡ names_set_in_rules (g.items_of items.now)) }
 {
-    let mut names = Vec::new(alloc);
-    for item in items {
-        if let Item::Action(block) | Item::PatternAction(_, block) = item {
-            add_all_names(&mut names, block)?;
-        }
-    }
-    Ok(names)
+    names_in_rules(alloc, Sort::Variable, items)
+}
+
+/// The arrays that the rules of a program fill by `split`, or empty, by statements of their own or as a loop begins.
+///
+/// # Errors
+///
+/// Where memory is refused.
+pub fn arrays_filled_in_rules(alloc: Global, items: &[Item]) -> Result<Vec<Bytes>, AllocError>
+    ensures { IfOk result (λ names. names.items ≡ arrays_filled_in_rules (g.items_of items.now)) }
+{
+    names_in_rules(alloc, Sort::Array, items)
 }
 
 /// Whether one of the names is this one.
@@ -180,4 +286,19 @@ pub fn is_own(names: &[Bytes], name: &[u8]) -> bool
     ensures { result ≡ is_own names.now name.now }
 {
     has_name(names, name) && !(tells_apart(name) || is_setting_of_awk(name))
+}
+
+/// Whether the variable is one of the record, where rules set these names and fill these arrays.
+pub(crate) fn is_own_variable(names: &[Bytes], arrays: &[Bytes], name: &[u8]) -> bool
+    ensures { result ≡ is_own_variable names.now arrays.now name.now }
+{
+    !has_name(arrays, name) && is_own(names, name)
+}
+
+/// Whether the array is one of the record, where rules set these names and fill these arrays.
+pub(crate) fn is_own_array(names: &[Bytes], arrays: &[Bytes], name: &[u8]) -> bool
+    ensures { result ≡ is_own_array names.now arrays.now name.now }
+{
+    has_name(arrays, name)
+        && !(has_name(names, name) || tells_apart(name) || is_setting_of_awk(name))
 }
