@@ -41,7 +41,8 @@ class Rules(Choices):
     before it; `said` writes a statement of the kind that a program is written for."""
 
     variables = []
-    arrays = ["p", "q"]
+    # (none: a program has no arrays of the record)
+    own_arrays = []
 
     def __init__(self, numbers):
         super().__init__(numbers)
@@ -51,17 +52,18 @@ class Rules(Choices):
     # What a record gives.
 
     def variable(self, known):
-        known = [name for name in known if name not in self.arrays]
+        known = [name for name in known if name not in self.own_arrays]
         return self.pick(self.variables if self.is_careless and self.chance(6) else known or ["unset"])
 
     def array(self, known):
-        known = [name for name in known if name in self.arrays]
-        return self.pick(self.arrays) if self.is_careless and self.chance(6) else self.pick(known) if known else None
+        known = [name for name in known if name in self.own_arrays]
+        is_any = self.own_arrays and self.is_careless and self.chance(6)
+        return self.pick(self.own_arrays) if is_any else self.pick(known) if known else None
 
     def subscript(self, known):
         return self.pick(["1", "2", "$1", "$1, $2", "NF", '"a"', self.variable(known)])
 
-    def element(self, known):
+    def filled_element(self, known):
         """An element of an array that was filled, or a field for want of one."""
         array = self.array(known)
         return f"{array}[{self.subscript(known)}]" if array else "$2"
@@ -76,12 +78,13 @@ class Rules(Choices):
     def place(self, known):
         """What may be changed: not what a loop counts by."""
         if self.array(known) and self.chance(3):
-            return self.element(known)
+            return self.filled_element(known)
         known = [name for name in known if name in self.variables]
         return self.variable(known) if known and not self.chance(3) else self.pick(["$1", "$2", "$NF", "$0", "NF"])
 
     def value(self, known, depth=2):
-        kind, less = self.numbers.randrange(17 if depth > 0 else 7), depth - 1
+        kinds = 17 if self.own_arrays else 15
+        kind, less = self.numbers.randrange(kinds if depth > 0 else 7), depth - 1
         if kind < 2:
             return f"${self.numbers.randint(0, 4)}"
         if kind < 5:
@@ -102,7 +105,7 @@ class Rules(Choices):
             return f"({self.test(known, less)} ? {self.value(known, less)} : {self.value(known, less)})"
         if kind == 13:
             return self.exchange(known)
-        if kind < 16:
+        if kind > 14:
             return self.asked(known)
         return self.change(known, True)
 
@@ -129,7 +132,7 @@ class Rules(Choices):
 
     def filling(self, known):
         """Also into a variable, which is set where it is known already."""
-        array = self.pick(self.arrays)
+        array = self.pick(self.own_arrays)
         if self.chance(3):
             return f"delete {array}", array
         separator = self.pick(["", ', ":"', ", /[ab]/", ", $1", f", {self.value(known, 0)}"])
@@ -167,9 +170,9 @@ class Rules(Choices):
 
     def statement(self, known, depth, in_loop=False):
         kind = self.numbers.randrange(12 if depth > 0 else 7)
-        if self.chance(6):
+        if self.own_arrays and self.chance(6):
             return self.filling(known)
-        if self.chance(15):
+        if self.own_arrays and self.chance(15):
             return self.deleting(known), None
         if kind < 2:
             return self.setting(known)

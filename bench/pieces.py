@@ -1,5 +1,5 @@
 #!/usr/bin/env python3
-"""Random programs that treat each record for itself, with loops and variables, over random inputs: one run over the whole beside
+"""Random programs that treat each record for itself, with loops, variables and arrays, over random inputs: one run over the whole beside
 runs over random pieces cut behind newlines, whose outputs are joined. Only programs are compared of which `awk-check --pieces`
 says yes: some are written that break the rules. Outputs are compared byte by byte. Each that differs is printed with its program,
 its input and its pieces; the last line is `N compared, M differ`, and the status is 1 where one differs. Where a piece ends with
@@ -20,6 +20,7 @@ class Writer(Rules):
     """Writes one program."""
 
     variables = ["s", "t", "n", "out"]
+    own_arrays = ["p", "q"]
 
     def __init__(self, numbers):
         super().__init__(numbers)

@@ -3,9 +3,11 @@
 use crate::reasons::{
     Part, exchanged_elsewhere, finding_of, is_set, plain_finding, reason_of_function,
 };
-use crate::statements::{StatementScan, have_name, is_of_awk, names_set};
+use crate::statements::{
+    StatementScan, array_split, arrays_filled, have_name, is_of_awk, names_set,
+};
 use awk_findings::Finding;
-use awk_findings::calls::{kind_before, kind_behind};
+use awk_findings::calls::{kind_before, kind_behind, name_of};
 use awk_lex::token::{AssignmentOperator, BuiltIn, Keyword, Kind, Token};
 use awk_pieces::tells_apart;
 use std::alloc::{AllocError, Global};
@@ -16,8 +18,11 @@ const NOT_KNOWN: &[u8] = b"not known to run on pieces: ";
 #[derive(Drop)]
 struct PiecesScan<'a> {
     tokens: &'a [Token],
-    /// The tokens at which rules set names by statements of their own.
+    /// The tokens at which rules set names by statements of their own, and fill arrays.
     own: Vec<usize>,
+    arrays: Vec<usize>,
+    /// The token of the array that the last `split` fills.
+    split: Option<usize>,
     statements: StatementScan<'a>,
 }
 
@@ -29,6 +34,11 @@ impl PiecesScan<'_> {
     /// Whether some rule sets the name by a statement of its own.
     fn is_own(&self, name: &[u8]) -> bool {
         have_name(self.tokens, &self.own, name)
+    }
+
+    /// Whether some rule fills the array by a statement of its own.
+    fn is_own_array(&self, name: &[u8]) -> bool {
+        have_name(self.tokens, &self.arrays, name) && !self.is_own(name) && !is_of_awk(name)
     }
 
     /// Why a name in BEGIN is a reason.
@@ -75,8 +85,24 @@ impl PiecesScan<'_> {
         }
     }
 
+    /// Why the name of an array in a rule or a pattern is a reason: where it isn't filled there.
+    fn reason_of_array(&self, at: usize, name: &[u8]) -> &'static [u8] {
+        let is_filled = self.split == Some(at) || self.statements.was_filled(name);
+        let is_deleted = matches!(
+            kind_before(self.tokens, at, 1),
+            Some(Kind::Keyword(Keyword::Delete))
+        ) && !matches!(kind_behind(self.tokens, at, 1), Some(Kind::OpenBracket));
+        if is_filled || is_deleted {
+            return b"";
+        }
+        b" is read before it is filled for the record"
+    }
+
     /// Why a name in a rule or a pattern is a reason.
     fn reason_in_rule(&self, at: usize, name: &[u8]) -> &'static [u8] {
+        if self.is_own_array(name) {
+            return self.reason_of_array(at, name);
+        }
         if matches!(kind_behind(self.tokens, at, 1), Some(Kind::OpenBracket)) {
             return b" is an array";
         }
@@ -104,9 +130,13 @@ impl PiecesScan<'_> {
                 Some(Kind::Keyword(Keyword::In)) => b" goes over an array",
                 _ => b"",
             },
-            Keyword::In => b" looks into an array",
+            Keyword::In | Keyword::Delete => match kind_behind(self.tokens, at, 1) {
+                Some(Kind::Name(name)) if self.is_own_array(name.as_slice()) => b"",
+                _ if matches!(keyword, Keyword::In) => b" looks into an array",
+                _ => b" in a rule",
+            },
             Keyword::Exit | Keyword::NextFile => b" passes over the records behind",
-            Keyword::Delete | Keyword::Return => b" in a rule",
+            Keyword::Return => b" in a rule",
             _ => b"",
         }
     }
@@ -126,7 +156,30 @@ impl PiecesScan<'_> {
                 _ => b"",
             });
         }
+        if matches!(function, BuiltIn::Split) && self.part() != Part::Begin {
+            return self.reason_of_split(alloc, at);
+        }
         Ok(reason_of_function(function))
+    }
+
+    /// Why a `split` in a rule or a pattern is a reason: where no statement of its own fills the array.
+    fn reason_of_split(&self, alloc: Global, at: usize) -> Result<&'static [u8], AllocError> {
+        let array = match array_split(alloc, self.tokens, at)? {
+            Some(array) => self.tokens.get(array),
+            None => None,
+        };
+        let is_own = match array {
+            Some(token) => match name_of(token) {
+                Some(name) => self.is_own_array(name),
+                None => false,
+            },
+            None => false,
+        };
+        Ok(if is_own {
+            b""
+        } else {
+            b" makes an array, and no statement of its own does"
+        })
     }
 
     /// Why a token is a reason, behind its text, or nothing where it is none.
@@ -161,9 +214,14 @@ pub(crate) fn pieces_finding(
     let mut scan = PiecesScan {
         tokens,
         own: names_set(alloc, tokens)?,
+        arrays: arrays_filled(alloc, tokens)?,
+        split: None,
         statements: StatementScan::new(alloc, tokens),
     };
     for (at, token) in tokens.iter().enumerate() {
+        if matches!(token.kind, Kind::BuiltIn(BuiltIn::Split)) {
+            scan.split = array_split(alloc, tokens, at)?;
+        }
         let reason = scan.reason(alloc, at, &token.kind)?;
         if !reason.is_empty() {
             return finding_of(alloc, text, token, NOT_KNOWN, reason);

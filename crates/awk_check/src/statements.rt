@@ -1,9 +1,9 @@
-// Where statements begin and end among tokens, and which variables of the record are set there.
+// Where statements begin and end among tokens, and which variables of the record are set there, and which arrays filled.
 
 use crate::reasons::{ItemScan, Part, goes_on};
-use awk_findings::calls::{Stretch, kind_before, kind_behind, name_of, only_token};
+use awk_findings::calls::{Stretch, arguments, kind_before, kind_behind, name_of, only_token};
 use awk_kinds::Special;
-use awk_lex::token::{AssignmentOperator, Keyword, Kind, Token};
+use awk_lex::token::{AssignmentOperator, BuiltIn, Keyword, Kind, Token};
 use awk_pieces::tells_apart;
 use std::alloc::{AllocError, Global};
 
@@ -22,17 +22,22 @@ enum Surrounding {
 #[derive(Clone, Copy)]
 struct Scope {
     surrounding: Surrounding,
-    /// How many names were set before.
+    /// How many names were set before, and how many arrays filled.
     set: usize,
+    filled: usize,
 }
 
-/// A scan of statements, which keeps the names that rules and END set by statements of their own.
+/// A scan of statements, which keeps the names that rules and END set by statements of their own, and the arrays that
+/// rules fill so.
 #[derive(Drop)]
 pub(crate) struct StatementScan<'a> {
+    alloc: Global,
     tokens: &'a [Token],
     pub(crate) items: ItemScan,
     /// Whether a statement begins here.
     pub(crate) begins: bool,
+    /// The first token of the statement.
+    first: usize,
     /// What the parentheses stand before that are open, or open next.
     head: Option<Surrounding>,
     /// Whether the body of a `do` has ended, whose `while` comes next.
@@ -44,6 +49,9 @@ pub(crate) struct StatementScan<'a> {
     walking: Option<usize>,
     /// The tokens of the names that were set before, in turn.
     set: Vec<usize>,
+    /// The token of the array that is filled behind the statement, and those of the arrays that were before.
+    filling: Option<usize>,
+    filled: Vec<usize>,
 }
 
 /// Whether a variable is one of awk's own.
@@ -87,6 +95,32 @@ pub(crate) fn names_set(alloc: Global, tokens: &[Token]) -> Result<Vec<usize>, A
     Ok(names)
 }
 
+/// The token of the array that the `split` at a token fills.
+pub(crate) fn array_split(
+    alloc: Global,
+    tokens: &[Token],
+    at: usize,
+) -> Result<Option<usize>, AllocError> {
+    let all = arguments(alloc, tokens, at)?;
+    Ok(match all.get(1) {
+        Some(stretch) if only_token(tokens, *stretch).is_some() => Some(stretch.from),
+        _ => None,
+    })
+}
+
+/// The tokens of the arrays that rules fill by statements of their own, or as a `for` begins.
+pub(crate) fn arrays_filled(alloc: Global, tokens: &[Token]) -> Result<Vec<usize>, AllocError> {
+    let mut arrays = Vec::new(alloc);
+    let mut scan = StatementScan::new(alloc, tokens);
+    for (at, token) in tokens.iter().enumerate() {
+        if let Some(array) = scan.array_filled(at, &token.kind)? {
+            arrays.push(array)?;
+        }
+        scan.step(at, &token.kind)?;
+    }
+    Ok(arrays)
+}
+
 /// Whether `else` stands behind a token, over newlines.
 fn is_before_else(tokens: &[Token], at: usize) -> bool {
     for token in tokens.get(at.saturating_add(1)..).unwrap_or(&[]) {
@@ -103,16 +137,62 @@ impl<'a> StatementScan<'a> {
     /// A scan as it begins.
     pub(crate) fn new(alloc: Global, tokens: &'a [Token]) -> StatementScan<'a> {
         StatementScan {
+            alloc,
             tokens,
             items: ItemScan::new(),
             begins: true,
+            first: 0,
             head: None,
             ends_do: false,
             scopes: Vec::new(alloc),
             setting: None,
             walking: None,
             set: Vec::new(alloc),
+            filling: None,
+            filled: Vec::new(alloc),
         }
+    }
+
+    /// Whether a statement of its own, or a `for` as it begins, assigns what begins at a token, and no other than that.
+    fn is_assigned(&self, at: usize) -> bool {
+        if !matches!(kind_before(self.tokens, at, 1), Some(Kind::Assign(_))) {
+            return false;
+        }
+        let place = self.tokens.get(self.first..at.saturating_sub(1));
+        for token in place.unwrap_or(&[]) {
+            if matches!(token.kind, Kind::Assign(_) | Kind::Keyword(_)) {
+                return false;
+            }
+        }
+        true
+    }
+
+    /// The token of the array that the statement of a rule fills or empties of which this is a token: by `split`, alone or
+    /// assigned, or by `delete` without a subscript.
+    pub(crate) fn array_filled(&self, at: usize, kind: &Kind) -> Result<Option<usize>, AllocError> {
+        if self.items.part != Part::Rule {
+            return Ok(None);
+        }
+        let begins = self.begins || begins_for(self.tokens, at);
+        match kind {
+            Kind::BuiltIn(BuiltIn::Split) if begins || self.is_assigned(at) => {
+                array_split(self.alloc, self.tokens, at)
+            }
+            Kind::Keyword(Keyword::Delete) if begins => {
+                let is_whole = !matches!(kind_behind(self.tokens, at, 2), Some(Kind::OpenBracket));
+                Ok(if is_whole {
+                    Some(at.saturating_add(1))
+                } else {
+                    None
+                })
+            }
+            _ => Ok(None),
+        }
+    }
+
+    /// Whether the array was filled before.
+    pub(crate) fn was_filled(&self, name: &[u8]) -> bool {
+        have_name(self.tokens, &self.filled, name)
     }
 
     /// Whether a statement of its own, or a `for` as it begins, sets the name at a token, and it isn't one of awk's.
@@ -160,18 +240,27 @@ impl<'a> StatementScan<'a> {
         }
     }
 
-    /// Keeps the name that the statement sets, behind it.
+    /// Keeps the name that the statement sets, and the array that it fills, behind it.
     fn keep(&mut self) -> Result<(), AllocError> {
         if let Some(at) = self.setting {
             self.set.push(at)?;
             self.setting = None;
+        }
+        if let Some(at) = self.filling {
+            self.filled.push(at)?;
+            self.filling = None;
         }
         Ok(())
     }
 
     fn enter(&mut self, surrounding: Surrounding) -> Result<(), AllocError> {
         let set = self.set.len();
-        self.scopes.push(Scope { surrounding, set })?;
+        let filled = self.filled.len();
+        self.scopes.push(Scope {
+            surrounding,
+            set,
+            filled,
+        })?;
         Ok(())
     }
 
@@ -179,6 +268,7 @@ impl<'a> StatementScan<'a> {
     fn leave(&mut self, kept: usize) {
         if let Some(scope) = self.scopes.get(kept) {
             self.set.truncate(scope.set);
+            self.filled.truncate(scope.filled);
         }
         self.scopes.truncate(kept);
     }
@@ -274,6 +364,12 @@ impl<'a> StatementScan<'a> {
 
     /// Goes over a token.
     pub(crate) fn step(&mut self, at: usize, kind: &Kind) -> Result<(), AllocError> {
+        if self.begins || begins_for(self.tokens, at) {
+            self.first = at;
+        }
+        if let Some(array) = self.array_filled(at, kind)? {
+            self.filling = Some(array);
+        }
         self.begins = match kind {
             Kind::Name(name) => {
                 if self.sets(at, name.as_slice()) || self.sets_in_end(at, name.as_slice()) {
