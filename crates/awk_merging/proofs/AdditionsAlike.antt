@@ -22,11 +22,13 @@ use Rattle.awk_semantics.specs.definitions.Operators.{join, one}
 use Rattle.awk_semantics.specs.definitions.Primitives.{joined_key}
 use Rattle.awk_semantics.specs.definitions.Places.{Place, AName, AnElement, assign_by}
 use Rattle.awk_semantics.specs.definitions.Semantics.{Functions, eval, place_of, key_of}
-use Rattle.awk_pieces.specs.definitions.Pieceable.{tells_apart, is_setting_of_awk, name_set, sets_own, also, keeps_to_record, all_keep_to_record}
-use Rattle.awk_pieces.proofs.Alike.{Outer, Names, OwnsSeparators, Values, AgreeOn}
+use Rattle.awk_pieces.specs.definitions.Pieceable.{no_own, tells_apart, is_setting_of_awk, name_set, array_filled, sets_own, also, keeps_to_record, all_keep_to_record}
+use Rattle.awk_pieces.proofs.Alike.{Outer, Names, OwnsSeparators, Values, AgreeOn, alike_within}
 use Rattle.awk_pieces.proofs.ReadsAlike.{left_true, right_true, unmoved}
 use Rattle.awk_pieces.proofs.ExpressionsAlike.{expression_alike}
 use Rattle.awk_pieces.proofs.SetsAlike.{statement_alike}
+use Rattle.awk_pieces.proofs.ArraysAlike.{joined_alike}
+use Rattle.awk_pieces.proofs.KnownNames.{set_behind}
 use Rattle.awk_merging.specs.definitions.Sums.{Sum, ByKey, Alone, name_of_sum, is_taken, Holds}
 use Rattle.awk_merging.specs.definitions.LawOfReading.{key_for, number_at, IsAmong}
 use Rattle.awk_merging.specs.definitions.LawOfStates.{Cell, Tables, with_cell, HoldsAll}
@@ -63,6 +65,7 @@ module _ (own : Names) (xs : List Sum) (owned : AreOwn own xs) (proper : AreProp
       rs = knew.within (codes "RS") (known_special (codes "RS") refl refl refl refl);
       ofs = knew.within (codes "OFS") (known_special (codes "OFS") refl refl refl refl);
       ors = knew.within (codes "ORS") (known_special (codes "ORS") refl refl refl refl);
+      subsep = knew.within (codes "SUBSEP") (known_special (codes "SUBSEP") refl refl refl refl);
     }
 
     abbrev Does : {A : Type 0} → Run A → Run A → Type 0
@@ -168,24 +171,20 @@ module _ (own : Names) (xs : List Sum) (owned : AreOwn own xs) (proper : AreProp
     adder_alike x key w m adder one = record { told = λ c arrays arrays' v u k d are agrees. by_number x key w m adder one c arrays arrays' v u k d are agrees (num_of w) refl }
 
     module _ (f g : Functions) where
-      pub reads : (e : Expr) → keeps_to_record own known e ≡ true → Does (eval f e) (eval g e)
-      reads e is = reads_alike own xs owned before base base' o p known knew (λ arrays arrays' kinds. expression_alike (reading_sorts own xs) (reading_apart own xs owned) known (record base { arrays = arrays }) (record base' { arrays = arrays' }) kinds owns f g e is)
+      pub reads : (e : Expr) → keeps_to_record own no_own known e ≡ true → Does (eval f e) (eval g e)
+      reads e is = reads_alike own xs owned before base base' o p known knew (expression_alike (reading_sorts own xs) (reading_apart own xs owned) known base base' owns f g e is)
 
       -- and what sets a variable of the record, too, which is known behind it
-      pub sets : (e : Expr) → (sets_own own known e || keeps_to_record own known e) ≡ true → Alike own xs owned before base base' o p known (also own (name_set e) known) (eval f e) (eval g e)
-      sets e is = reads_alike own xs owned before base base' o p known knew (λ arrays arrays' kinds. statement_alike (reading_sorts own xs) (reading_apart own xs owned) known (record base { arrays = arrays }) (record base' { arrays = arrays' }) kinds owns f g e is)
+      pub sets : (e : Expr) → (sets_own own no_own known e || keeps_to_record own no_own known e) ≡ true → Alike own xs owned before base base' o p known (also own (name_set e) known) (eval f e) (eval g e)
+      sets e is = reads_alike own xs owned before base base' o p known knew (alike_within (set_behind own known (name_set e) (array_filled e)) (statement_alike (reading_sorts own xs) (reading_apart own xs owned) known base base' owns f g e is))
 
       joined : (vs : List Value) → Does (joined_key vs) (joined_key vs)
-      unfolding joined_key
-      joined vs = reads_alike own xs owned before base base' o p known knew (λ arrays arrays' kinds. record {
-        covers = λ q r c v w k d agrees.
-            rw (agrees (codes "SUBSEP") (knew.within (codes "SUBSEP") (known_special (codes "SUBSEP") refl refl refl refl))) (unmoved (reading_sorts own xs) known (record base { arrays = arrays }) (record base' { arrays = arrays' }) q r c v w k d [] (Ok (join (str_of (v (codes "SUBSEP"))) (map str_of vs))) tt refl agrees);
-      })
+      joined vs = reads_alike own xs owned before base base' o p known knew (joined_alike (reading_sorts own xs) known base base' owns vs)
 
-      keys : (front : List Value) (es : Exprs) → all_keep_to_record own known es ≡ true → Does (key_of f front es) (key_of g front es)
+      keys : (front : List Value) (es : Exprs) → all_keep_to_record own no_own known es ≡ true → Does (key_of f front es) (key_of g front es)
       unfolding key_of
       keys front Nil is = joined front
-      keys front (Cons e es) is = then_alike own xs owned before base base' o p _ _ (reads e (left_true (keeps_to_record own known e) _ is)) (λ v. keys (front ++ v ∷ []) es (right_true (keeps_to_record own known e) _ is))
+      keys front (Cons e es) is = then_alike own xs owned before base base' o p _ _ (reads e (left_true (keeps_to_record own no_own known e) _ is)) (λ v. keys (front ++ v ∷ []) es (right_true (keeps_to_record own no_own known e) _ is))
 
       element_first : (h : Functions) (a : List ℕ) (es : Exprs) (to : Place → Run Value) → drop (place_of h (Element a es) >>= to) ≡ (key_of h [] es >>= λ key. drop (to (AnElement a key)))
       unfolding place_of
@@ -229,7 +228,7 @@ module _ (own : Names) (xs : List Sum) (owned : AreOwn own xs) (proper : AreProp
       abbrev own_name : (x : List ℕ) → IsOneOf (Alone x) xs → is_taken x ≡ false
       own_name x one = is_proper (Alone x) xs proper one
 
-      pub assigned : (place e : Expr) → is_sum_place own xs known place ≡ true → keeps_to_record own known e ≡ true → Does (drop (eval f (Assign assignment.Add place e))) (drop (eval g (Assign assignment.Add place e)))
+      pub assigned : (place e : Expr) → is_sum_place own xs known place ≡ true → keeps_to_record own no_own known e ≡ true → Does (drop (eval f (Assign assignment.Add place e))) (drop (eval g (Assign assignment.Add place e)))
       unfolding eval
       assigned place e is kept =
           let valued = λ (q : Place) (h : (w : Value) → Does (drop (assign_by (Some operator.Plus) q w)) (drop (assign_by (Some operator.Plus) q w))).

@@ -10,8 +10,9 @@ use Rattle.awk_kinds.specs.declared.uses.ArrayUse.TheVariants.{Used, Passed}
 use Rattle.awk_kinds.specs.definitions.Kinds.{Scope, split_into, uses_in_expr, uses_in_list, uses_in_print_list, uses_in_output, uses_in_simple, uses_in_optional_expr, uses_in_optional_simple, uses_in_statement, uses_in_block, uses_in_pattern, outside_functions, uses_in_item, uses_in}
 use Rattle.awk_grammar.specs.declared.tree.BinaryOperator.{BinaryOperator}
 use Rattle.awk_grammar.specs.Tree.{Expr, Number, String, Ere, Name, Element, Field, Group, Call, BuiltIn, Length, PreIncrement, PostIncrement, Getline, PipedGetline, Unary, Binary, Membership, ListMembership, Conditional, Assign, Exprs, Nil, Cons, PrintList, Bare, Parenthesized, Output, Standard, Redirected, SimpleStatement, Expression, Print, Delete, DeleteAll, Next, NextFile, Break, Continue, Exit, Return, OptionalExpr, NoExpr, AnExpr, OptionalSimple, NoSimple, ASimple, Statement, Empty, Simple, Block, If, IfElse, While, Do, ForIn, For, Statements, NoMore, Then, Pattern, Single, Range, Item, Begin, End, Action, PatternAction, PatternOnly, Function}
-use Rattle.awk_pieces.specs.definitions.Pieceable.{no_own, may_be_called, keeps_to_record, all_keep_to_record, may_keep_to_record, is_of_record, is_own_place, sets_own, name_set_first, also, behind, is_plain, may_be_set, is_setting, is_simple_setting, only_sets, all_only_set, pattern_keeps_to_record}
+use Rattle.awk_pieces.specs.definitions.Pieceable.{no_own, second_is_array, may_be_called, fills_array, arguments_keep_to_record, keeps_to_record, all_keep_to_record, may_keep_to_record, is_of_record, is_own_place, sets_own, name_set_first, also, behind, is_plain, may_be_set, is_setting, is_simple_setting, only_sets, all_only_set, pattern_keeps_to_record}
 use Rattle.awk_pieces.proofs.ReadsAlike.{left_true, right_true}
+use Rattle.awk_pieces.proofs.CallsAlike.{none_filled}
 use Rattle.awk_merging.specs.definitions.Sums.{Sum, is_taken}
 use Rattle.awk_merging.specs.definitions.Mergeable.{is_plus, is_plus_one, is_array_sum, knows, makes_value, is_standard, is_sum, is_sum_place, is_addition, is_simple_summing, is_part_summing, only_sums, all_only_sum, shows, is_free, is_changeable, is_pattern, reads_sums, all_read_sums, may_read_sums, are_printed, is_printed, sets_free, is_simple_of_end, is_part_of_end, only_prints, all_only_print, is_mergeable_item, are_mergeable}
 
@@ -43,7 +44,15 @@ summed_append xs [] vs a b = b
 summed_append xs (Used v ∷ us) vs a b = (a.0, summed_append xs us vs a.1 b)
 summed_append xs (Passed v f n ∷ us) vs a b = absurd a
 
-no_split : (own : List ℕ → Bool) (f : BuiltInName) (es : Exprs) → may_be_called own f es ≡ true → split_into plain f es ≡ []
+no_array : (own : List ℕ → Bool) (es : Exprs) → second_is_array own no_own es ≡ true → ⊥
+no_array own (Cons text (Cons (Name a) es)) is = cc
+no_array own es is = cc
+
+no_filled_array : (own known : List ℕ → Bool) (f : BuiltInName) (es : Exprs) → may_be_called own no_own f es ≡ true → arguments_keep_to_record own no_own known (fills_array f) es ≡ true → all_keep_to_record own no_own known es ≡ true
+no_filled_array own known builtin.Split es may is = absurd (no_array own es may)
+no_filled_array own known f es may is = none_filled own no_own known es is
+
+no_split : (own : List ℕ → Bool) (f : BuiltInName) (es : Exprs) → may_be_called own no_own f es ≡ true → split_into plain f es ≡ []
 no_split own builtin.Length es may = refl
 no_split own builtin.Substr es may = refl
 no_split own builtin.Index es may = refl
@@ -53,7 +62,7 @@ no_split own builtin.ToUpper es may = refl
 no_split own builtin.Int es may = refl
 no_split own builtin.Sub es may = refl
 no_split own builtin.Gsub es may = refl
-no_split own builtin.Split es may = absurd (cc)
+no_split own builtin.Split es may = absurd (no_array own es may)
 no_split own builtin.Match es may = absurd (cc)
 no_split own builtin.System es may = absurd (cc)
 no_split own builtin.Close es may = absurd (cc)
@@ -87,7 +96,7 @@ module _ (own : List ℕ → Bool) (xs : List Sum) where
 
   module _ (mine known : List ℕ → Bool) where
     mutual
-      kept : (e : Expr) → keeps_to_record mine known e ≡ true → Fine (uses_in_expr plain e)
+      kept : (e : Expr) → keeps_to_record mine no_own known e ≡ true → Fine (uses_in_expr plain e)
       kept (Number n) is = tt
       kept (String bytes) is = tt
       kept (Ere text) is = tt
@@ -96,17 +105,17 @@ module _ (own : List ℕ → Bool) (xs : List Sum) where
       kept (Field e) is = kept e is
       kept (Group e) is = kept e is
       kept (Unary o e) is = kept e is
-      kept (Binary o a b) is = both (uses_in_expr plain a) (uses_in_expr plain b) (kept a (left_true (keeps_to_record mine known a) _ is)) (kept b (right_true (keeps_to_record mine known a) _ is))
+      kept (Binary o a b) is = both (uses_in_expr plain a) (uses_in_expr plain b) (kept a (left_true (keeps_to_record mine no_own known a) _ is)) (kept b (right_true (keeps_to_record mine no_own known a) _ is))
       kept (Conditional c a b) is =
-          let rest = right_true (keeps_to_record mine known c) _ is in
-          both (uses_in_expr plain c) (uses_in_expr plain a ++ uses_in_expr plain b) (kept c (left_true (keeps_to_record mine known c) _ is))
-          (both (uses_in_expr plain a) (uses_in_expr plain b) (kept a (left_true (keeps_to_record mine known a) _ rest)) (kept b (right_true (keeps_to_record mine known a) _ rest)))
-      kept (BuiltIn f es) is = split_and (split_into plain f es) (uses_in_list plain es) (no_split mine f es (left_true (may_be_called mine f es) _ is)) (all_kept es (right_true (may_be_called mine f es) _ is))
-      kept (PreIncrement o p) is = kept p (right_true (is_of_record mine p) _ is)
-      kept (PostIncrement o p) is = kept p (right_true (is_of_record mine p) _ is)
+          let rest = right_true (keeps_to_record mine no_own known c) _ is in
+          both (uses_in_expr plain c) (uses_in_expr plain a ++ uses_in_expr plain b) (kept c (left_true (keeps_to_record mine no_own known c) _ is))
+          (both (uses_in_expr plain a) (uses_in_expr plain b) (kept a (left_true (keeps_to_record mine no_own known a) _ rest)) (kept b (right_true (keeps_to_record mine no_own known a) _ rest)))
+      kept (BuiltIn f es) is = split_and (split_into plain f es) (uses_in_list plain es) (no_split mine f es (left_true (may_be_called mine no_own f es) _ is)) (all_kept es (no_filled_array mine known f es (left_true (may_be_called mine no_own f es) _ is) (right_true (may_be_called mine no_own f es) _ is)))
+      kept (PreIncrement o p) is = kept p (right_true (is_of_record mine no_own p) _ is)
+      kept (PostIncrement o p) is = kept p (right_true (is_of_record mine no_own p) _ is)
       kept (Assign o p e) is =
-          let rest = right_true (is_of_record mine p) _ is in
-          both (uses_in_expr plain p) (uses_in_expr plain e) (kept p (left_true (keeps_to_record mine known p) _ rest)) (kept e (right_true (keeps_to_record mine known p) _ rest))
+          let rest = right_true (is_of_record mine no_own p) _ is in
+          both (uses_in_expr plain p) (uses_in_expr plain e) (kept p (left_true (keeps_to_record mine no_own known p) _ rest)) (kept e (right_true (keeps_to_record mine no_own known p) _ rest))
       kept (Element x es) is = absurd (cc)
       kept (Call c es) is = absurd (cc)
       kept (Getline p file) is = absurd (cc)
@@ -114,9 +123,9 @@ module _ (own : List ℕ → Bool) (xs : List Sum) where
       kept (Membership a x) is = absurd (cc)
       kept (ListMembership es x) is = absurd (cc)
 
-      all_kept : (es : Exprs) → all_keep_to_record mine known es ≡ true → Fine (uses_in_list plain es)
+      all_kept : (es : Exprs) → all_keep_to_record mine no_own known es ≡ true → Fine (uses_in_list plain es)
       all_kept Nil is = tt
-      all_kept (Cons e es) is = both (uses_in_expr plain e) (uses_in_list plain es) (kept e (left_true (keeps_to_record mine known e) _ is)) (all_kept es (right_true (keeps_to_record mine known e) _ is))
+      all_kept (Cons e es) is = both (uses_in_expr plain e) (uses_in_list plain es) (kept e (left_true (keeps_to_record mine no_own known e) _ is)) (all_kept es (right_true (keeps_to_record mine no_own known e) _ is))
 
   -- rules
 
@@ -167,20 +176,20 @@ module _ (own : List ℕ → Bool) (xs : List Sum) where
     added (Membership a x) is = absurd (cc)
     added (ListMembership es x) is = absurd (cc)
 
-    own_placed : (place : Expr) → is_own_place own place ≡ true → Fine (uses_in_expr plain place)
+    own_placed : (place : Expr) → is_own_place own no_own place ≡ true → Fine (uses_in_expr plain place)
     own_placed (Name x) is = tt
     own_placed place is = absurd (cc)
 
-    set : (e : Expr) → sets_own own known e ≡ true → Fine (uses_in_expr plain e)
+    set : (e : Expr) → sets_own own no_own known e ≡ true → Fine (uses_in_expr plain e)
     set (Assign o p e) is =
         let rest = right_true (is_plain o) _ is in
-        both (uses_in_expr plain p) (uses_in_expr plain e) (own_placed p (left_true (is_own_place own p) _ rest)) (kept own known e (right_true (is_own_place own p) _ rest))
+        both (uses_in_expr plain p) (uses_in_expr plain e) (own_placed p (left_true (is_own_place own no_own p) _ rest)) (kept own known e (right_true (is_own_place own no_own p) _ rest))
     set e is = absurd (cc)
 
-    expression : (e : Expr) → (is_addition own xs known e || (sets_own own known e || keeps_to_record own known e)) ≡ true → Fine (uses_in_expr plain e)
-    expression e is = elim (or_cases (is_addition own xs known e) (sets_own own known e || keeps_to_record own known e) is) [
+    expression : (e : Expr) → (is_addition own xs known e || (sets_own own no_own known e || keeps_to_record own no_own known e)) ≡ true → Fine (uses_in_expr plain e)
+    expression e is = elim (or_cases (is_addition own xs known e) (sets_own own no_own known e || keeps_to_record own no_own known e) is) [
       | inl adds ↦ added e adds
-      | inr other ↦ elim (or_cases (sets_own own known e) (keeps_to_record own known e) other) [ inl sets ↦ set e sets | inr keeps ↦ kept own known e keeps ]
+      | inr other ↦ elim (or_cases (sets_own own no_own known e) (keeps_to_record own no_own known e) other) [ inl sets ↦ set e sets | inr keeps ↦ kept own known e keeps ]
     ]
 
     simple_sums : (simple : SimpleStatement) → is_simple_summing own xs known simple ≡ true → Fine (uses_in_simple plain simple)
@@ -199,7 +208,7 @@ module _ (own : List ℕ → Bool) (xs : List Sum) where
     part_sums NoSimple is = tt
     part_sums (ASimple simple) is = simple_sums simple is
 
-    condition : (c : OptionalExpr) → may_keep_to_record own known c ≡ true → Fine (uses_in_optional_expr plain c)
+    condition : (c : OptionalExpr) → may_keep_to_record own no_own known c ≡ true → Fine (uses_in_optional_expr plain c)
     condition NoExpr is = tt
     condition (AnExpr e) is = kept own known e is
 
@@ -208,20 +217,20 @@ module _ (own : List ℕ → Bool) (xs : List Sum) where
     rule known Empty is = tt
     rule known (Simple simple) is = simple_sums known simple is
     rule known (Block all) is = rules known all is
-    rule known (If c s) is = both (uses_in_expr plain c) (uses_in_statement plain s) (kept own known c (left_true (keeps_to_record own known c) _ is)) (rule known s (right_true (keeps_to_record own known c) _ is))
+    rule known (If c s) is = both (uses_in_expr plain c) (uses_in_statement plain s) (kept own known c (left_true (keeps_to_record own no_own known c) _ is)) (rule known s (right_true (keeps_to_record own no_own known c) _ is))
     rule known (IfElse c s other) is =
-        let rest = right_true (keeps_to_record own known c) _ is in
-        both (uses_in_expr plain c) (uses_in_statement plain s ++ uses_in_statement plain other) (kept own known c (left_true (keeps_to_record own known c) _ is))
+        let rest = right_true (keeps_to_record own no_own known c) _ is in
+        both (uses_in_expr plain c) (uses_in_statement plain s ++ uses_in_statement plain other) (kept own known c (left_true (keeps_to_record own no_own known c) _ is))
         (both (uses_in_statement plain s) (uses_in_statement plain other) (rule known s (left_true (only_sums own xs known s) _ rest)) (rule known other (right_true (only_sums own xs known s) _ rest)))
-    rule known (While c s) is = both (uses_in_expr plain c) (uses_in_statement plain s) (kept own known c (left_true (keeps_to_record own known c) _ is)) (rule known s (right_true (keeps_to_record own known c) _ is))
-    rule known (Do s c) is = both (uses_in_statement plain s) (uses_in_expr plain c) (rule known s (right_true (keeps_to_record own known c) _ is)) (kept own known c (left_true (keeps_to_record own known c) _ is))
+    rule known (While c s) is = both (uses_in_expr plain c) (uses_in_statement plain s) (kept own known c (left_true (keeps_to_record own no_own known c) _ is)) (rule known s (right_true (keeps_to_record own no_own known c) _ is))
+    rule known (Do s c) is = both (uses_in_statement plain s) (uses_in_expr plain c) (rule known s (right_true (keeps_to_record own no_own known c) _ is)) (kept own known c (left_true (keeps_to_record own no_own known c) _ is))
     rule known (For first c last s) is =
         let more = also own (name_set_first first) known in
         let loop = right_true (is_part_summing own xs known first) _ is in
-        let parts = right_true (may_keep_to_record own more c) _ loop in
+        let parts = right_true (may_keep_to_record own no_own more c) _ loop in
         let body = uses_in_statement plain s in
         both (uses_in_optional_simple plain first) (uses_in_optional_expr plain c ++ (uses_in_optional_simple plain last ++ body)) (part_sums known first (left_true (is_part_summing own xs known first) _ is))
-        (both (uses_in_optional_expr plain c) (uses_in_optional_simple plain last ++ body) (condition more c (left_true (may_keep_to_record own more c) _ loop))
+        (both (uses_in_optional_expr plain c) (uses_in_optional_simple plain last ++ body) (condition more c (left_true (may_keep_to_record own no_own more c) _ loop))
         (both (uses_in_optional_simple plain last) body (part_sums more last (left_true (is_part_summing own xs more last) _ parts)) (rule more s (right_true (is_part_summing own xs more last) _ parts))))
     rule known (ForIn x array s) is = absurd (cc)
 
@@ -418,14 +427,14 @@ module _ (own : List ℕ → Bool) (xs : List Sum) where
 
   -- items
 
-  selected : (p : Pattern) → pattern_keeps_to_record own (knows own xs) p ≡ true → Fine (uses_in_pattern plain p)
+  selected : (p : Pattern) → pattern_keeps_to_record own no_own (knows own xs) p ≡ true → Fine (uses_in_pattern plain p)
   selected (Single e) is = kept own (knows own xs) e is
   selected (Range from to) is = absurd (cc)
 
   item : (x : Item) → is_mergeable_item own xs x ≡ true → Fine (uses_in_item x)
   item (Begin block) is = begins block (left_true (all_only_set block) _ is)
   item (Action block) is = rules (knows own xs) block is
-  item (PatternAction p block) is = both (uses_in_pattern plain p) (uses_in_block plain block) (selected p (left_true (pattern_keeps_to_record own (knows own xs) p) _ is)) (rules (knows own xs) block (right_true (pattern_keeps_to_record own (knows own xs) p) _ is))
+  item (PatternAction p block) is = both (uses_in_pattern plain p) (uses_in_block plain block) (selected p (left_true (pattern_keeps_to_record own no_own (knows own xs) p) _ is)) (rules (knows own xs) block (right_true (pattern_keeps_to_record own no_own (knows own xs) p) _ is))
   item (End block) is = ends (shows own) block is
   item (PatternOnly p) is = absurd (cc)
   item (Function f parameters block) is = absurd (cc)

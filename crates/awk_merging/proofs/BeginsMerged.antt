@@ -1,5 +1,6 @@
 -- What comes before the records is the same for a program that sums up and the two that are derived of it.
-use Rattle.std.proofs.Common.{◌≡◌, ℕ, ◌+◌, ◌≤◌, Bool, true, ◌&&◌, not, List, [], ◌∷◌, Result, Ok, Err, refl, ap, ◌∙◌}
+use Rattle.std.proofs.Common.{◌≡◌, ℕ, ◌+◌, ◌≤◌, Bool, true, ◌&&◌, not, List, [], ◌∷◌, Result, Ok, Err, refl, ap, ap₂, ◌∙◌}
+use Rattle.awk_value.specs.Arrays.{Array}
 use Rattle.awk_record.specs.Record.{RecordPair}
 use Rattle.awk_grammar.specs.Tree.{Expr, Name, Assign, Expression, Statement, Simple, Statements, NoMore, Then, Item, Begin, End, Action, PatternAction, PatternOnly, Function}
 use Rattle.awk_semantics.specs.declared.halt.Halt.{Halt}
@@ -72,7 +73,7 @@ pub record Settled (may : Names) (base base' : State) (o p : Outer) (v : Values)
   pub is_here : x ≡ gives tt (state_on base o pair values left)
   pub is_there : y ≡ gives tt (state_on base' p pair values (left + d))
 
-pub settled : (may : Names) (base base' : State) (o p : Outer) (v w : Values) (k d : ℕ) (r : Result (Unit {0}) Halt) (t : State) (effects : List Effect) (y : Out (Unit {0})) → Covers (first_sorts may) all_names base base' o p v w k d r (record { result = r; state = t; effects = effects }) y → EndsWell r →
+pub settled : (may : Names) (base base' : State) (o p : Outer) (v w : Values) (k d : ℕ) (r : Result (Unit {0}) Halt) (t : State) (effects : List Effect) (y : Out (Unit {0})) → Covers (first_sorts may) all_names base base' o p base.arrays base'.arrays v w k d r (record { result = r; state = t; effects = effects }) y → EndsWell r →
     Settled may base base' o p v k d (record { result = r; state = t; effects = effects }) y
 settled may base base' o p v w k d (Ok u) t effects y c well = record {
   pair = c.pair;
@@ -80,11 +81,11 @@ settled may base base' o p v w k d (Ok u) t effects y c well = record {
   values = c.here;
   keeps = c.keeps;
   falls = c.falls;
-  is_here = rw (c.is_here, c.plain) refl;
+  is_here = rw (c.is_here, c.moves.fixed (λ z. refl), c.plain) refl;
   is_there =
       c.is_there
-      ∙ ap (λ (l : List Effect). record { result = Ok tt; state = state_on base' p c.pair c.there (c.left + d); effects = l }) c.plain
-      ∙ ap (λ (f : Values). gives tt (state_on base' p c.pair f (c.left + d))) (λ i z. c.agrees z refl i);
+      ∙ ap₂ (λ (arrays : List Array) (l : List Effect). record { result = Ok tt; state = state_on (record base' { arrays = arrays }) p c.pair c.there (c.left + d); effects = l }) (c.moves_there.fixed (λ z. refl)) c.plain
+      ∙ ap (λ (f : Values). gives tt (state_on base' p c.pair f (c.left + d))) (λ i z. c.agrees.values z refl i);
 }
 settled may base base' o p v w k d (Err halt.Exit) t effects y c well = absurd c
 settled may base base' o p v w k d (Err halt.Next) t effects y c well = absurd well

@@ -120,7 +120,7 @@ module _ (start : StartValues) (xs : List Sum) (items others : List Item) (plain
       (ap (is_among x) (no_function_names others plain'.functions ∙ sym (no_function_names items plain.functions)))
 
   pub names_same : SameNames here there
-  names_same = record { kinds = λ x e. record { named = same_names x; count = ap length (same_elements x) }; unassignable = same_refused }
+  names_same = record { kinds = λ x e. record { named = same_names x; same = same_elements x }; unassignable = same_refused }
 
 -- nothing is summed up at the start
 module _ (start : StartValues) (xs : List Sum) (proper : AreProper xs) (items : List Item) (plain : IsPlain xs items) (o : Oracle) (v : List ℕ → Value) (unset : (x : List ℕ) → IsOneOf (Alone x) xs → v x ≡ value.Nothing) where

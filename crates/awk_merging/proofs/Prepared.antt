@@ -16,7 +16,7 @@ use Rattle.awk_semantics.specs.definitions.Meaning.{StartValues, start_state, as
 use Rattle.awk_pieces.specs.definitions.Pieceable.{leaves_records}
 use Rattle.awk_pieces.specs.definitions.LawOfPieces.{all_leave_records}
 use Rattle.awk_pieces.proofs.Alike.{Values}
-use Rattle.awk_pieces.proofs.BeginsAlike.{AllMay, assign_all_alike}
+use Rattle.awk_pieces.proofs.BeginsAlike.{AllMay, first_agrees, assign_all_alike}
 use Rattle.awk_pieces.proofs.FirstRecord.{unread}
 use Rattle.awk_pieces.proofs.ReadsAlike.{left_true, right_true}
 use Rattle.awk_pieces.proofs.RecordsPassed.{EndsWell}
@@ -215,10 +215,10 @@ module _ (items : List Item) (mergeable : IsMergeable items) (has : has_rule ite
       let names = names_same start own program other is.plain is'.plain o p in
       let may = pre_may own start.pre apart.plainly.assignments apart.sums in
       let one = settled (may_begin own) (base program o) (base other p) (unread o) (unread p) first_values first_values limit d _ _ _ _
-      ((assign_all_alike (may_begin own) (narrow own) (base program o) (base other p) names start.pre may).covers (unread o) (unread p) first_pair first_values first_values limit d (λ z e. refl)) (well_assigned program o limit well) in
+      ((assign_all_alike (may_begin own) (narrow own) (base program o) (base other p) names start.pre may).covers (unread o) (unread p) first_pair (base program o).arrays (base other p).arrays first_values first_values limit d (first_agrees (may_begin own) (base program o) (base other p) first_values first_values names (λ z e. refl))) (well_assigned program o limit well) in
       let mid : State = state_begun (base program o) one.pair one.values one.left in
       let two = settled (may_begin own) (base program o) (base other p) (unread o) (unread p) one.values one.values one.left d _ _ _ _
-      ((begins_alike (own_in items) own (base program o) (base other p) names (functions program limit) (functions other (limit + d)) items mergeable).covers (unread o) (unread p) one.pair one.values one.values one.left d (λ z e. refl))
+      ((begins_alike (own_in items) own (base program o) (base other p) names (functions program limit) (functions other (limit + d)) items mergeable).covers (unread o) (unread p) one.pair (base program o).arrays (base other p).arrays one.values one.values one.left d (first_agrees (may_begin own) (base program o) (base other p) one.values one.values names (λ z e. refl)))
       (subst (λ (z : Out (Unit {0})). EndsWell z.result) (is.begins (functions program limit) mid) (well_begun program (functions program limit) mid (well_run program o limit mid one.is_here well))) in
       let kept = λ (x : List ℕ) (e : not (may_begin own x) ≡ true). two.keeps x e ∙ one.keeps x e in
       record {

@@ -16,7 +16,7 @@ use Rattle.awk_semantics.specs.definitions.State.{Effect, State, Out, Run, ◌>>
 use Rattle.awk_semantics.specs.definitions.Primitives.{outside_calls, spend}
 use Rattle.awk_semantics.specs.definitions.Semantics.{Functions, eval, tested, choose, begin_test, exec_simple, exec_part, goes_on, repeat, pass_on, exec, exec_all}
 use Rattle.awk_semantics.specs.definitions.Items.{run_action, selects, try_item, try_items, unless_next, until_next}
-use Rattle.awk_pieces.specs.definitions.Pieceable.{keeps_to_record, may_keep_to_record, pattern_keeps_to_record, sets_own, name_set, name_set_by, name_set_first, name_behind, also, behind}
+use Rattle.awk_pieces.specs.definitions.Pieceable.{no_own, keeps_to_record, may_keep_to_record, pattern_keeps_to_record, sets_own, name_set, name_set_by, name_set_first, name_behind, also, behind}
 use Rattle.awk_pieces.proofs.Alike.{Outer, Names, Values, IsWithin}
 use Rattle.awk_pieces.proofs.LoopsAlike.{pass_alike}
 use Rattle.awk_pieces.proofs.PlacesAlike.{within_also}
@@ -63,10 +63,10 @@ module _ (own : Names) (xs : List Sum) (owned : AreOwn own xs) (proper : AreProp
     abbrev Does : {A : Type 0} → Run A → Run A → Type 0
     Does m n = Leads known known m n
 
-    abbrev value_of : (e : Expr) → keeps_to_record own known e ≡ true → Does (eval f e) (eval g e)
+    abbrev value_of : (e : Expr) → keeps_to_record own no_own known e ≡ true → Does (eval f e) (eval g e)
     value_of e is = reads own xs owned proper distinct known knew before base base' o p f g e is
 
-    assigned_by : (operator : AssignmentOperator) (place e : Expr) → (is_plus operator && (is_sum_place own xs known place && keeps_to_record own known e)) ≡ true → Leads known (also own (name_set (Assign operator place e)) known) (drop (eval f (Assign operator place e))) (drop (eval g (Assign operator place e)))
+    assigned_by : (operator : AssignmentOperator) (place e : Expr) → (is_plus operator && (is_sum_place own xs known place && keeps_to_record own no_own known e)) ≡ true → Leads known (also own (name_set (Assign operator place e)) known) (drop (eval f (Assign operator place e))) (drop (eval g (Assign operator place e)))
     assigned_by assignment.Add place e is = assigned own xs owned proper distinct known knew before base base' o p f g place e (left_true (is_sum_place own xs known place) _ is) (right_true (is_sum_place own xs known place) _ is)
     assigned_by assignment.Plain place e is = absurd (cc)
     assigned_by assignment.Subtract place e is = absurd (cc)
@@ -105,8 +105,8 @@ module _ (own : Names) (xs : List Sum) (owned : AreOwn own xs) (proper : AreProp
     addition_alike (ListMembership es x) is = absurd (cc)
     addition_alike (Conditional h a b) is = absurd (cc)
 
-    expression_alike : (e : Expr) → (is_addition own xs known e || (sets_own own known e || keeps_to_record own known e)) ≡ true → Leads known (also own (name_set e) known) (drop (eval f e)) (drop (eval g e))
-    expression_alike e is = elim (or_cases (is_addition own xs known e) (sets_own own known e || keeps_to_record own known e) is) [
+    expression_alike : (e : Expr) → (is_addition own xs known e || (sets_own own no_own known e || keeps_to_record own no_own known e)) ≡ true → Leads known (also own (name_set e) known) (drop (eval f e)) (drop (eval g e))
+    expression_alike e is = elim (or_cases (is_addition own xs known e) (sets_own own no_own known e || keeps_to_record own no_own known e) is) [
       | inl adds ↦ addition_alike e adds
       | inr other ↦ next _ _ (sets own xs owned proper distinct known knew before base base' o p f g e other) (λ v. gives_back flow.Normal)
     ]
@@ -129,11 +129,11 @@ module _ (own : Names) (xs : List Sum) (owned : AreOwn own xs) (proper : AreProp
     part_alike NoSimple is = gives_back tt
     part_alike (ASimple simple) is = next _ _ (simple_alike simple is) (λ c. gives_back tt)
 
-    test_alike : (e : Expr) → keeps_to_record own known e ≡ true → Does (begin_test f e) (begin_test g e)
+    test_alike : (e : Expr) → keeps_to_record own no_own known e ≡ true → Does (begin_test f e) (begin_test g e)
     unfolding begin_test
     test_alike e is = next _ _ spends (λ _. tests (value_of e is))
 
-    goes_on_alike : (c : OptionalExpr) → may_keep_to_record own known c ≡ true → Does (goes_on f c) (goes_on g c)
+    goes_on_alike : (c : OptionalExpr) → may_keep_to_record own no_own known c ≡ true → Does (goes_on f c) (goes_on g c)
     unfolding goes_on
     goes_on_alike NoExpr is = gives_back true
     goes_on_alike (AnExpr e) is = tests (value_of e is)
@@ -150,27 +150,27 @@ module _ (own : Names) (xs : List Sum) (owned : AreOwn own xs) (proper : AreProp
     exec_alike known knew (Simple simple) is = simple_alike known knew simple is
     exec_alike known knew (Block all) is = exec_all_alike known knew all is
     exec_alike known knew (If c s) is =
-        let body = fewer (grows own known s) (exec_alike known knew s (right_true (keeps_to_record own known c) _ is)) in
-        next _ _ (test_alike known knew c (left_true (keeps_to_record own known c) _ is)) (λ x. chooses x body (gives_back flow.Normal))
+        let body = fewer (grows own known s) (exec_alike known knew s (right_true (keeps_to_record own no_own known c) _ is)) in
+        next _ _ (test_alike known knew c (left_true (keeps_to_record own no_own known c) _ is)) (λ x. chooses x body (gives_back flow.Normal))
     exec_alike known knew (IfElse c s other) is =
-        let both = right_true (keeps_to_record own known c) _ is in
+        let both = right_true (keeps_to_record own no_own known c) _ is in
         let body = fewer (grows own known s) (exec_alike known knew s (left_true (only_sums own xs known s) _ both)) in
         let rest = fewer (grows own known other) (exec_alike known knew other (right_true (only_sums own xs known s) _ both)) in
-        next _ _ (test_alike known knew c (left_true (keeps_to_record own known c) _ is)) (λ x. chooses x body rest)
+        next _ _ (test_alike known knew c (left_true (keeps_to_record own no_own known c) _ is)) (λ x. chooses x body rest)
     exec_alike known knew (While c s) is =
-        let condition = tests (value_of known knew c (left_true (keeps_to_record own known c) _ is)) in
-        let body = fewer (grows own known s) (exec_alike known knew s (right_true (keeps_to_record own known c) _ is)) in
+        let condition = tests (value_of known knew c (left_true (keeps_to_record own no_own known c) _ is)) in
+        let body = fewer (grows own known s) (exec_alike known knew s (right_true (keeps_to_record own no_own known c) _ is)) in
         next _ _ spends (λ _. repeats condition body (gives_back tt))
     exec_alike known knew (Do s c) is =
-        let condition = tests (value_of known knew c (left_true (keeps_to_record own known c) _ is)) in
-        let body = fewer (grows own known s) (exec_alike known knew s (right_true (keeps_to_record own known c) _ is)) in
+        let condition = tests (value_of known knew c (left_true (keeps_to_record own no_own known c) _ is)) in
+        let body = fewer (grows own known s) (exec_alike known knew s (right_true (keeps_to_record own no_own known c) _ is)) in
         next _ _ spends (λ _. next _ _ (turned own xs owned before base base' o p body) (λ ended. unless own xs owned before base base' o p ended (repeats condition body (gives_back tt))))
     exec_alike known knew (For first c last s) is =
         let more = also own (name_set_first first) known in
         let known_then = knows_also own xs owned known (name_set_first first) knew in
         let loop = right_true (is_part_summing own xs known first) _ is in
-        let parts = right_true (may_keep_to_record own more c) _ loop in
-        let condition = goes_on_alike more known_then c (left_true (may_keep_to_record own more c) _ loop) in
+        let parts = right_true (may_keep_to_record own no_own more c) _ loop in
+        let condition = goes_on_alike more known_then c (left_true (may_keep_to_record own no_own more c) _ loop) in
         let end = fewer (within_also own more (name_set_first last)) (part_alike more known_then last (left_true (is_part_summing own xs more last) _ parts)) in
         let body = fewer (grows own more s) (exec_alike more known_then s (right_true (is_part_summing own xs more last) _ parts)) in
         next _ _ spends (λ _. next _ _ (part_alike known knew first (left_true (is_part_summing own xs known first) _ is)) (λ _. repeats condition body end))
@@ -196,7 +196,7 @@ module _ (own : Names) (xs : List Sum) (owned : AreOwn own xs) (proper : AreProp
   unfolding run_action
   action_alike all is = next _ _ (exec_all_alike first knew_first all is) (λ c. gives_back tt)
 
-  selects_alike : (m n : ℕ) (q : Pattern) → pattern_keeps_to_record own first q ≡ true → DoesFirst (selects f m q) (selects g n q)
+  selects_alike : (m n : ℕ) (q : Pattern) → pattern_keeps_to_record own no_own first q ≡ true → DoesFirst (selects f m q) (selects g n q)
   unfolding selects
   selects_alike m n (Single e) is = tests (value_of first knew_first e is)
   selects_alike m n (Range from to) is = absurd (cc)
@@ -207,8 +207,8 @@ module _ (own : Names) (xs : List Sum) (owned : AreOwn own xs) (proper : AreProp
   item_alike m n (End block) is = gives_back tt
   item_alike m n (Action block) is = action_alike block is
   item_alike m n (PatternAction q block) is =
-      next _ _ (selects_alike m n q (left_true (pattern_keeps_to_record own first q) _ is))
-      (λ b. chooses b (action_alike block (right_true (pattern_keeps_to_record own first q) _ is)) (gives_back tt))
+      next _ _ (selects_alike m n q (left_true (pattern_keeps_to_record own no_own first q) _ is))
+      (λ b. chooses b (action_alike block (right_true (pattern_keeps_to_record own no_own first q) _ is)) (gives_back tt))
   item_alike m n (PatternOnly q) is = absurd (cc)
   item_alike m n (Function name parameters block) is = absurd (cc)
 

@@ -1,6 +1,6 @@
 -- Two runs that sum up: one from no sums, and one from a state that is ahead. They do alike, or a sum leaves the range in the
 -- second one.
-use Rattle.std.proofs.Common.{◌≡◌, ◌⊎◌, inl, inr, ℕ, suc, zero, ◌+◌, ◌≤◌, Bool, true, false, not, ◌&&◌, ◌||◌, List, [], ◌++◌, length, Option, Some, None, Result, Ok, Err, refl, sym, ap, ◌∙◌, le_refl, le_trans, arith, append_assoc, subst, codes, bytes_eq}
+use Rattle.std.proofs.Common.{◌≡◌, ◌⊎◌, inl, inr, ℕ, suc, zero, ◌+◌, ◌≤◌, Bool, true, false, not, ◌&&◌, ◌||◌, List, [], ◌++◌, length, Option, Some, None, Result, Ok, Err, refl, sym, ap, ap₂, ◌∙◌, le_refl, le_trans, arith, append_assoc, subst, codes, bytes_eq}
 use Rattle.std.proofs.lemmas.Bool.{or_cases}
 use Rattle.awk_value.specs.declared.value.Value.{Value}
 use Rattle.awk_value.specs.Arrays.{Array}
@@ -13,8 +13,8 @@ use Rattle.awk_semantics.specs.definitions.State.{Effect, State, Out, Run, go_on
 use Rattle.awk_semantics.specs.definitions.Primitives.{spend, spend_of}
 use Rattle.awk_semantics.specs.declared.flow.Flow.{Flow}
 use Rattle.awk_semantics.specs.definitions.Semantics.{tested, choose, turn, unless_ended, repeat_within, repeat}
-use Rattle.awk_pieces.specs.definitions.Pieceable.{tells_apart, is_setting_of_awk, also}
-use Rattle.awk_pieces.proofs.Alike.{Outer, Names, Sorts, Values, AgreeOn, IsWithin, SameKinds, SetsApart}
+use Rattle.awk_pieces.specs.definitions.Pieceable.{no_own, tells_apart, is_setting_of_awk, also}
+use Rattle.awk_pieces.proofs.Alike.{Outer, Names, Sorts, Values, AgreeOn, IsWithin, SameKind, SameKinds, SetsApart}
 use Rattle.awk_pieces.proofs.Alike.{state_on as plain_state, Same as PlainSame, Covers as PlainCovers, Alike as PlainAlike}
 use Rattle.awk_pieces.proofs.LoopsAlike.{unless_alike, turn_alike, repeat_within_alike}
 use Rattle.awk_pieces.proofs.PlacesAlike.{within_also}
@@ -71,7 +71,7 @@ go_lost y g lost = rw lost refl
 
 -- rules change no variables but sums and those of the record
 abbrev pub reading_sorts : Names → List Sum → Sorts
-reading_sorts own xs = record { kept = λ x. not (own x); shared = knows own xs; own = own; shows = false }
+reading_sorts own xs = record { kept = λ x. not (own x); shared = knows own xs; own = own; arrays = no_own; shows = false }
 
 module _ (own : Names) (xs : List Sum) (owned : AreOwn own xs) where
   pub reading_apart : SetsApart (reading_sorts own xs)
@@ -344,7 +344,7 @@ module _ (own : Names) (xs : List Sum) (owned : AreOwn own xs) (before : Tables)
 
   -- what keeps to the record does alike
   lifted_same : {A : Type 0} (after : Names) (c : RecordPair) (arrays arrays' : List Array) (v w : Values) (k d : ℕ) (x y : Out A) → IsAhead own xs before (at c arrays v k) (at' c arrays' w (k + d)) →
-      PlainSame (reading_sorts own xs) after (record base { arrays = arrays }) (record base' { arrays = arrays' }) o p v w k d x y → Same after v w k d x y
+      PlainSame (reading_sorts own xs) after base base' o p arrays arrays' v w k d x y → Same after v w k d x y
   lifted_same after c arrays arrays' v w k d x y are s = record {
     pair = s.pair;
     arrays = arrays;
@@ -353,29 +353,32 @@ module _ (own : Names) (xs : List Sum) (owned : AreOwn own xs) (before : Tables)
     there = s.there;
     left = s.left;
     are_ahead = moved c s.pair arrays arrays' v w s.here s.there k (k + d) s.left (s.left + d) (λ x f. s.keeps x (ap not f)) (λ x f. s.keeps_there x (ap not f)) are;
-    agrees = s.agrees;
+    agrees = s.agrees.values;
     keeps = λ x e f. s.keeps x (ap not f);
     keeps' = λ x e f. s.keeps_there x (ap not f);
     falls = s.falls;
-    is_here = s.is_here;
+    is_here = s.is_here ∙ ap (λ (filled : List Array). at s.pair filled s.here s.left) (s.moves.fixed (λ z. refl));
     silent = s.plain;
-    is_there = s.is_there ∙ ap (λ (l : List Effect). record { result = x.result; state = at' s.pair arrays' s.there (s.left + d); effects = l }) s.plain;
+    is_there = s.is_there ∙ ap₂ (λ (filled : List Array) (l : List Effect). record { result = x.result; state = at' s.pair filled s.there (s.left + d); effects = l }) (s.moves_there.fixed (λ z. refl)) s.plain;
   }
 
   lifted : {A : Type 0} (after : Names) (c : RecordPair) (arrays arrays' : List Array) (v w : Values) (k d : ℕ) (r : Result A Halt) (x y : Out A) → IsAhead own xs before (at c arrays v k) (at' c arrays' w (k + d)) →
-      PlainCovers (reading_sorts own xs) after (record base { arrays = arrays }) (record base' { arrays = arrays' }) o p v w k d r x y → Covers after v w k d r x y
+      PlainCovers (reading_sorts own xs) after base base' o p arrays arrays' v w k d r x y → Covers after v w k d r x y
   lifted after c arrays arrays' v w k d (Ok a) x y are s = lifted_same after c arrays arrays' v w k d x y are s
   lifted after c arrays arrays' v w k d (Err (halt.Fault f)) x y are s = tt
   lifted after c arrays arrays' v w k d (Err halt.OutOfSteps) x y are s = tt
   lifted after c arrays arrays' v w k d (Err halt.Next) x y are s = lifted_same (knows own xs) c arrays arrays' v w k d x y are s
   lifted after c arrays arrays' v w k d (Err halt.Exit) x y are s = absurd s
 
-  pub reads_alike : {A : Type 0} {after : Names} {m n : Run A} (known : Names) → Knows own xs owned known →
-      ((arrays arrays' : List Array) → SameKinds known (record base { arrays = arrays }) (record base' { arrays = arrays' }) → PlainAlike (reading_sorts own xs) known after (record base { arrays = arrays }) (record base' { arrays = arrays' }) m n) → Alike known after m n
+  pub reads_alike : {A : Type 0} {after : Names} {m n : Run A} (known : Names) → Knows own xs owned known → PlainAlike (reading_sorts own xs) known after base base' m n → Alike known after m n
   reads_alike {after = after} {m = m} {n = n} known knew h = record {
     told = λ c arrays arrays' v w k d are agrees.
-        let kinds : SameKinds known (record base { arrays = arrays }) (record base' { arrays = arrays' }) = λ x e.
-        let none = are.arrays x (no_array_sum xs x (knew.no_sum x e)) (knew.plain x e) in
-        record { named = none.1.0 ∙ sym none.0.0; count = ap length (none.1.1 ∙ sym none.0.1) } in
-        inl (lifted after c arrays arrays' v w k d (m (at c arrays v k)).result (m (at c arrays v k)) (n (at' c arrays' w (k + d))) are ((h arrays arrays' kinds).covers o p c v w k d agrees));
+        let same : (x : List ℕ) → is_sum xs x ≡ false → tells_apart x ≡ false → SameKind (record base { arrays = arrays }) (record base' { arrays = arrays' }) x = λ x no_sum plain.
+        let none = are.arrays x (no_array_sum xs x no_sum) plain in
+        record { named = none.1.0 ∙ sym none.0.0; same = none.1.1 ∙ sym none.0.1 } in
+        let kinds : SameKinds (λ x. known x || own x) (record base { arrays = arrays }) (record base' { arrays = arrays' }) = λ x e. elim (or_cases (known x) (own x) e) [
+          | inl held ↦ same x (knew.no_sum x held) (knew.plain x held)
+          | inr mine ↦ same x (own_no_sum own xs owned.sums x mine) (own_plain own xs owned x mine)
+        ] in
+        inl (lifted after c arrays arrays' v w k d (m (at c arrays v k)).result (m (at c arrays v k)) (n (at' c arrays' w (k + d))) are (h.covers o p c arrays arrays' v w k d (record { values = agrees; unset = λ x e. absurd (cc); kinds = kinds; sized = λ x e. absurd (cc) })));
   }

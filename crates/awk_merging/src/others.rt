@@ -1,6 +1,7 @@
 // The variables that a rule and END may read at a place.
 
 ghost use Rattle.std.specs.Prelude.{◌≡◌, ℕ, Bool, List};
+ghost use Rattle.awk_pieces.specs.definitions.Pieceable.{no_own};
 ghost use Rattle.awk_pieces.specs.support.Known.{own_of};
 ghost use Rattle.awk_merging.specs.definitions.Mergeable.{is_derived, is_other, is_shown};
 ghost use Rattle.awk_merging.specs.support.Others.{known_in, shown_in};
@@ -19,10 +20,16 @@ pub(crate) struct Others<'a, 'b> {
 impl Readable for Others<'_, '_> {
     ghost own = { λ others. own_of others.known.now };
 
+    ghost arrays = { λ _. no_own };
+
     ghost known = { λ others. known_in (sums_of others.sums.now) others.known.now };
 
     fn is_own(&self, name: &[u8]) -> bool {
         self.known.is_own(name)
+    }
+
+    fn is_own_array(&self, _: &[u8]) -> bool {
+        false
     }
 
     fn has(&self, name: &[u8]) -> bool {

@@ -11,7 +11,7 @@ use Rattle.awk_grammar.specs.declared.tree.BinaryOperator.{BinaryOperator}
 use Rattle.awk_grammar.specs.Tree.{Expr, Number, String, Ere, Name, Element, Group, BuiltIn, PreIncrement, PostIncrement, Unary, Binary, Membership, ListMembership, Conditional, Assign, Exprs, Nil, Cons, OptionalExpr, NoExpr, AnExpr, PrintList, Bare, Parenthesized, Output, Standard, Redirected, SimpleStatement, Expression, Print, Delete, DeleteAll, Next, Break, Continue, Exit, OptionalSimple, NoSimple, ASimple, Statement, Empty, Simple, Block, If, IfElse, While, Do, ForIn, For, Statements, NoMore, Then, Item, Begin, End, Action, PatternAction}
 use Rattle.awk_kinds.specs.OfValues.{is_of_values}
 use Rattle.awk_semantics.specs.definitions.Operators.{takes_pattern}
-use Rattle.awk_pieces.specs.definitions.Pieceable.{tells_apart, is_plain, keeps_to_record, all_keep_to_record, may_keep_to_record, all_only_set, pattern_keeps_to_record, names_set_in_rules, is_own, sets_own, name_set_first, also, behind}
+use Rattle.awk_pieces.specs.definitions.Pieceable.{no_own, tells_apart, is_plain, keeps_to_record, all_keep_to_record, may_keep_to_record, all_only_set, pattern_keeps_to_record, names_set_in_rules, is_own, sets_own, name_set_first, also, behind}
 use Rattle.awk_merging.specs.definitions.Sums.{Sum, ByKey, Alone, name_of_sum, merge_what, merge_key, is_taken}
 
 -- Which sums a program has.
@@ -138,18 +138,18 @@ module _ (own : List ℕ → Bool) (sums : List Sum) where
   module _ (known : List ℕ → Bool) where
     -- an addition to a sum of what the record gives
     abbrev pub is_sum_place : (place : Expr) → Bool
-    is_sum_place (Element a es) = is_array_sum sums a && all_keep_to_record own known es
+    is_sum_place (Element a es) = is_array_sum sums a && all_keep_to_record own no_own known es
     is_sum_place (Name x) = is_variable_sum sums x
     is_sum_place e = false
 
     abbrev pub is_addition : Expr → Bool
-    is_addition (Assign operator place e) = is_plus operator && (is_sum_place place && keeps_to_record own known e)
+    is_addition (Assign operator place e) = is_plus operator && (is_sum_place place && keeps_to_record own no_own known e)
     is_addition (PreIncrement operator place) = is_plus_one operator && is_sum_place place
     is_addition (PostIncrement operator place) = is_plus_one operator && is_sum_place place
     is_addition e = false
 
     abbrev pub is_simple_summing : SimpleStatement → Bool
-    is_simple_summing (Expression e) = is_addition e || (sets_own own known e || keeps_to_record own known e)
+    is_simple_summing (Expression e) = is_addition e || (sets_own own no_own known e || keeps_to_record own no_own known e)
     is_simple_summing Next = true
     is_simple_summing Break = true
     is_simple_summing Continue = true
@@ -165,12 +165,12 @@ module _ (own : List ℕ → Bool) (sums : List Sum) where
     only_sums known Empty = true
     only_sums known (Simple simple) = is_simple_summing known simple
     only_sums known (Block all) = all_only_sum known all
-    only_sums known (If c s) = keeps_to_record own known c && only_sums known s
-    only_sums known (IfElse c s other) = keeps_to_record own known c && (only_sums known s && only_sums known other)
-    only_sums known (While c s) = keeps_to_record own known c && only_sums known s
-    only_sums known (Do s c) = keeps_to_record own known c && only_sums known s
+    only_sums known (If c s) = keeps_to_record own no_own known c && only_sums known s
+    only_sums known (IfElse c s other) = keeps_to_record own no_own known c && (only_sums known s && only_sums known other)
+    only_sums known (While c s) = keeps_to_record own no_own known c && only_sums known s
+    only_sums known (Do s c) = keeps_to_record own no_own known c && only_sums known s
     only_sums known (For first c last s) =
-        is_part_summing known first && (may_keep_to_record own (also own (name_set_first first) known) c
+        is_part_summing known first && (may_keep_to_record own no_own (also own (name_set_first first) known) c
         && (is_part_summing (also own (name_set_first first) known) last && only_sums (also own (name_set_first first) known) s))
     only_sums known s = false
 
@@ -291,7 +291,7 @@ module _ (own : List ℕ → Bool) (sums : List Sum) where
   abbrev pub is_mergeable_item : Item → Bool
   is_mergeable_item (Begin block) = all_only_set block && all_only_set_others sums block
   is_mergeable_item (Action block) = all_only_sum own sums (knows own sums) block
-  is_mergeable_item (PatternAction p block) = pattern_keeps_to_record own (knows own sums) p && all_only_sum own sums (knows own sums) block
+  is_mergeable_item (PatternAction p block) = pattern_keeps_to_record own no_own (knows own sums) p && all_only_sum own sums (knows own sums) block
   is_mergeable_item (End block) = all_only_print (shows own) block
   is_mergeable_item x = false
 
