@@ -1,6 +1,6 @@
 // Printing.
 
-ghost use Rattle.std.specs.Prelude.{◌≡◌, ℕ, pos, [], true, false, Ok, IfOk, IfSome};
+ghost use Rattle.std.specs.Prelude.{◌≡◌, pos, [], true, false, Ok, IfOk, IfSome};
 ghost use Rattle.awk_value.specs.Values.{str_of};
 ghost use Rattle.awk_world.specs.declared.world.OutputKind.TheVariants.{Command as OutputCommand};
 ghost use Rattle.awk_world.specs.declared.world.Mode.TheVariants.{Truncate as ModeTruncate};

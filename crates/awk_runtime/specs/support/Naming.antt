@@ -1,13 +1,9 @@
 -- The names of a program and the texts of its EREs, by their places.
-use Rattle.std.specs.Prelude.{◌≡◌, ℕ, Bool, false, ◌||◌, List, [], map, slice_get, get_or, Some, codes, bytes_eq}
-use Rattle.std.specs.Global.{Vec}
+use Rattle.std.specs.Prelude.{◌≡◌, ℕ, Bool, false, ◌||◌, List, [], slice_get, get_or, Some, codes, bytes_eq}
 use Rattle.awk_lex.specs.Words.{is_reserved, is_left_out}
 use Rattle.awk_kinds.specs.declared.special.Special.{Special}
 use Rattle.awk_kinds.specs.Variables.{name_of}
 use Rattle.awk_semantics.specs.Inputs.{is_among}
-
-abbrev pub names_of : List (Vec ℕ) → List (List ℕ)
-names_of keys = map (λ k. k.items) keys
 
 pub record Naming : Type 0 where
   -- the variables of the whole program, by their slots
