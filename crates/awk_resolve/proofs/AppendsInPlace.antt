@@ -1,6 +1,5 @@
 -- Assignments of a concatenation that begins with the place itself, built as one node, append to what the place holds.
-use Rattle.std.proofs.Common.{◌≡◌, ℕ, ℤ, pos, true, false, List, [], ◌∷◌, ◌++◌, map, Option, Some, None, Result, Ok, Err, refl, sym, subst, ap, ◌∙◌, slice_get}
-use Rattle.std.specs.List.{concat}
+use Rattle.std.proofs.Common.{◌≡◌, ℕ, ℤ, pos, true, List, [], ◌∷◌, ◌++◌, Option, Some, None, Result, Ok, Err, refl, sym, ap, ◌∙◌, slice_get}
 use Rattle.std.specs.Global.{Vec}
 use Rattle.awk_value.specs.declared.value.Value.{Value}
 use Rattle.awk_value.specs.declared.value.Value.TheVariants as value
@@ -12,8 +11,8 @@ use Rattle.awk_kinds.specs.definitions.Kinds.{FormalParameter}
 use Rattle.awk_kinds.specs.definitions.Signatures.{ProgramKinds}
 use Rattle.awk_semantics.specs.declared.halt.Halt.{Halt}
 use Rattle.awk_semantics.specs.definitions.State.{State, Run, go_on, ◌>>=◌, lift, ret}
-use Rattle.awk_semantics.specs.definitions.Faults.{of_values, of_record}
-use Rattle.awk_semantics.specs.definitions.Primitives.{number_of, read_name, read_element, read_field}
+use Rattle.awk_semantics.specs.definitions.Faults.{of_values}
+use Rattle.awk_semantics.specs.definitions.Primitives.{number_of, read_element, read_field}
 use Rattle.awk_semantics.specs.definitions.Places.{Place as Target, AName, AnElement, read_place, assign_by}
 use Rattle.awk_semantics.specs.definitions.Semantics.{Functions, eval, place_of, key_of, eval_all}
 use Rattle.awk_semantics.specs.support.Outside.{read_outside}

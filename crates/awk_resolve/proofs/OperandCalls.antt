@@ -1,5 +1,5 @@
 -- Calls of built-in functions whose first arguments are read where they stand.
-use Rattle.std.proofs.Common.{◌≡◌, ℕ, ℤ, pos, zero, suc, true, false, ◌&&◌, List, [], ◌∷◌, ◌++◌, length, map, refl, sym, ap, ◌∙◌, append-nil, Option, Some, None, unwrap_or, slice_get}
+use Rattle.std.proofs.Common.{◌≡◌, ℕ, pos, zero, suc, true, List, [], ◌∷◌, ◌++◌, refl, sym, ap, ◌∙◌, append-nil, None, unwrap_or, slice_get}
 use Rattle.std.specs.Global.{Vec}
 use Rattle.awk_value.specs.declared.value.Value.{Value}
 use Rattle.awk_value.specs.declared.value.Value.TheVariants as value
@@ -9,23 +9,21 @@ use Rattle.awk_grammar.specs.Tree.{Expr, Number, String, Name, Field, BuiltIn, E
 use Rattle.awk_kinds.specs.definitions.Kinds.{FormalParameter}
 use Rattle.awk_kinds.specs.definitions.NameUses.{count_of}
 use Rattle.awk_kinds.specs.definitions.Signatures.{ProgramKinds}
-use Rattle.awk_semantics.specs.definitions.State.{State, Run, Out, go_on, ◌>>=◌, lift, ret, gives}
+use Rattle.awk_semantics.specs.definitions.State.{State, Run, ◌>>=◌, lift, ret, gives}
 use Rattle.awk_semantics.specs.definitions.Primitives.{number_of, read_name, read_field}
-use Rattle.awk_semantics.specs.definitions.BuiltIns.{AsMeasured, Argument, OfValue, bare_name, array_named_or, roles_of, value_of as argument_value, applied_all, apply_built_in}
+use Rattle.awk_semantics.specs.definitions.BuiltIns.{AsMeasured, Argument, OfValue, bare_name, array_named_or, applied_all, apply_built_in}
 use Rattle.awk_semantics.specs.definitions.Semantics.{Functions, eval, take_arguments, eval_all}
 use Rattle.awk_resolve.specs.declared.builder.Builder.{Builder}
-use Rattle.awk_resolve.specs.declared.scope.Scope.{Scope}
 use Rattle.awk_resolve.specs.declared.node.Operand.{Operand}
 use Rattle.awk_resolve.specs.declared.node.ValueNode.TheVariants as v
 use Rattle.awk_resolve.specs.declared.node.Node.TheVariants as n
-use Rattle.awk_resolve.specs.support.Nodes.{operand_values, taken}
-use Rattle.awk_resolve.specs.support.Builds.{Grows, Pushes, Extends, IsIn, Program, Evaluate, EvaluateAll, Builds, AreOperandsOf, FindsEachOperand, Stands}
+use Rattle.awk_resolve.specs.support.Nodes.{operand_values}
+use Rattle.awk_resolve.specs.support.Builds.{Grows, Pushes, IsIn, Program, Evaluate, EvaluateAll, Builds, AreOperandsOf, FindsEachOperand, Stands}
 use Rattle.awk_resolve.specs.support.Operands.{reads_in_place}
-use Rattle.awk_kinds.specs.OfValues.{is_of_values}
 use Rattle.awk_resolve.specs.support.Readings.{all_read, is_field_number, is_read_behind}
-use Rattle.awk_resolve.specs.support.Scopes.{MeasuredBy, LowersValue}
+use Rattle.awk_resolve.specs.support.Scopes.{MeasuredBy}
 use Rattle.awk_resolve.proofs.Calculus.{assoc_at, go_same, later_same, first_same, given}
-use Rattle.awk_resolve.proofs.Building.{grows, extends, behind, still}
+use Rattle.awk_resolve.proofs.Building.{grows, behind, still}
 use Rattle.awk_resolve.proofs.ValueLists.{taken_all, dropped_all, all_first, counted}
 use Rattle.awk_resolve.proofs.Taking.{node, list_first, evaluates}
 use Rattle.awk_resolve.proofs.ExpressionForms.{takes_behind}

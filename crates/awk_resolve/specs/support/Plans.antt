@@ -1,5 +1,5 @@
 -- What a plan is: from its places a run does what the items of its program mean.
-use Rattle.std.specs.Prelude.{◌≡◌, ◌⊎◌, ℕ, ◌<◌, Bool, List, [], ◌∷◌, length, map, Option, Some, None, Result, Ok, Err}
+use Rattle.std.specs.Prelude.{◌≡◌, ◌⊎◌, ℕ, ◌<◌, Bool, List, [], ◌∷◌, length, map, Some, None, Result, Ok, Err}
 use Rattle.awk_lex.specs.declared.refusal.Refusal.{Refusal}
 use Rattle.awk_lex.specs.Refused.{IsOutOfMemory}
 use Rattle.awk_value.specs.declared.value.Value.{Value}

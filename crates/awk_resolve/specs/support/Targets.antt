@@ -1,6 +1,5 @@
 -- Targets and keys that expressions are.
 use Rattle.std.specs.Prelude.{◌≡◌, ℕ, true, List, Option, Some, None}
-use Rattle.std.specs.Global.{Vec}
 use Rattle.awk_grammar.specs.declared.tree.BinaryOperator.TheVariants.{Concatenate}
 use Rattle.awk_grammar.specs.Tree.{Expr, Name, Element, Binary, Exprs, Nil, Cons}
 use Rattle.awk_kinds.specs.definitions.Kinds.{FormalParameter}
