@@ -1,4 +1,4 @@
-use Rattle.std.proofs.Common.{None, ◌≡◌, suc, ◌-◌, Bool, true, false, List, [], rules, get_or, drop, length, refl, sym, subst, ap, ◌∙◌, true≢false, arith, to_z, of_z}
+use Rattle.std.proofs.Common.{None, ◌≡◌, suc, ◌-◌, Bool, true, false, List, [], rules, get_or, drop, length, refl, sym, ap, ◌∙◌, true≢false, arith, to_z, of_z}
 use mir.Syntax.{w128}
 use Rattle.awk_grammar.specs.declared.tree.Expr.TheViews.{the_lemmas}
 use Rattle.awk_lex.specs.declared.token.Operator.TheVariants as o
@@ -6,12 +6,10 @@ use Rattle.awk_grammar.specs.declared.tree.BinaryOperator.TheVariants.{Concatena
 use Rattle.awk_grammar.specs.Tree as tree
 use Rattle.awk_grammar.specs.View.{expr_of, exprs_of, optional_expr_of}
 use Rattle.std.proofs.lemmas.Option.{get_or_from_slice_get}
-use Rattle.awk_kinds.proofs.Rows.{row_is_list}
 use Rattle.awk_resolve.specs.support.Builds.{array_parameters_in, EvaluateAll, EvaluateArguments}
 use Rattle.awk_resolve.specs.support.Appends.{without_first}
 use Rattle.awk_resolve.specs.support.Parts.{is_concatenation, parts_of}
-use Rattle.awk_resolve.specs.support.Calls.{arrays_of, is_array_at, roles_from}
-use Rattle.awk_resolve.specs.support.Scopes.{Builds}
+use Rattle.awk_resolve.specs.support.Calls.{arrays_of, roles_from}
 use Rattle.awk_resolve.proofs.Building.{ok_map, same, still, behind, stands, arrays_same, extends}
 use Rattle.awk_resolve.proofs.ExpressionForms.{number_lowered, strict_lowered, string_lowered, ere_lowered, length_lowered, element_lowered, field_lowered, group_lowered, unary_lowered, membership_lowered, list_membership_lowered, assign_lowered, pre_increment_lowered, post_increment_lowered}
 use Rattle.awk_resolve.proofs.ElementForms.{element_read, operand_contained, target_post_incremented, target_raise_tested, operand_contained_tested}
@@ -26,7 +24,7 @@ use Rattle.awk_resolve.proofs.CallForms.{call_fits, call_lowered, no_arguments, 
 use Rattle.awk_resolve.proofs.BuiltInForms.{IsPlain, strict_applied, record_length_lowered, count_lowered, length_of_lowered, flush_all_lowered, flush_lowered, match_lowered, fields_split, split_lowered}
 use Rattle.awk_resolve.proofs.OperandCalls.{operands_applied, behind_applied, length_of_operand}
 use Rattle.awk_resolve.proofs.SubstituteForms.{substitute_lowered, substitute_place_lowered, exchange_lowered}
-use Rattle.awk_resolve.proofs.TreeForms.{getline_is, piped_is, same_arrays}
+use Rattle.awk_resolve.proofs.TreeForms.{element_is, list_membership_is, call_is, built_in_is, getline_is, piped_is, takes_still, built_at}
 use Rattle.awk_resolve.proofs.GetlineForms.{nothing_stays, something_lowered, no_operand_stays, operand_there, getline_lowered, piped_getline_lowered}
 use Rattle.awk_resolve.proofs.builder.Builder.+expressions.Goals as goal
 use Rattle.awk_resolve.proofs.builder.Builder.+expressions.Goals.{lower_parts-in_default-via-in-Binary+in_default, lower_parts-in_default-via-in_default, lower_behind_first-in_default-via-in-Binary+in_default, lower_behind_first-in_default-via-in_default, lower_built_in-else-takes_one-via-then-takes_one+else-list-ne1, lower_built_in-else-takes_one-via-else-takes_one, lower_match_test-in_default-via-in-Number-1, lower_match_test-in_default-via-in-Ere+in_ok-operand+in-None-1}
@@ -46,9 +44,7 @@ pub lower-returns-in-Length : goal.lower-returns-in-Length
 lower-returns-in-Length t c = rw (ap expr_of c.in-Length.is) (ok_map _ (λ i p. length_lowered c.requires p) c.push_value.ensures)
 
 pub lower-returns-in-Element : goal.lower-returns-in-Element
-lower-returns-in-Element t c =
-    let is : expr_of c.args.e.now ≡ tree.Element c.in-Element.x (exprs_of c.in-Element.list.items) = search (rules, the_lemmas, row_is_list) in
-    rw is (rw c.deref.ensures.value at c.lower_element.ensures)
+lower-returns-in-Element t c = rw (element_is c.args.e.now c.in-Element.x c.in-Element.list c.in-Element.is) (rw c.deref.ensures.value at c.lower_element.ensures)
 
 pub lower-returns-in-Field : goal.lower-returns-in-Field
 lower-returns-in-Field t c = rw (ap expr_of c.in-Field.is) (rw c.deref-in-Field.ensures at c.lower_field.ensures)
@@ -67,8 +63,7 @@ lower-returns-in-Membership t c = rw (ap expr_of c.in-Membership.is) (rw c.deref
 
 pub lower-returns-in-ListMembership : goal.lower-returns-in-ListMembership
 lower-returns-in-ListMembership t c =
-    let is : expr_of c.args.e.now ≡ tree.ListMembership (exprs_of c.in-ListMembership.list.items) c.in-ListMembership.x = search (rules, the_lemmas, row_is_list) in
-    rw is (rw c.deref-in-ListMembership.ensures.value at c.lower_list_membership.ensures)
+    rw (list_membership_is c.args.e.now c.in-ListMembership.list c.in-ListMembership.x c.in-ListMembership.is) (rw c.deref-in-ListMembership.ensures.value at c.lower_list_membership.ensures)
 
 pub lower-returns-in-Conditional : goal.lower-returns-in-Conditional
 lower-returns-in-Conditional t c = rw (ap expr_of c.in-Conditional.is) (rw (c.deref-in-Conditional.ensures, c.deref-in-Conditional-2.ensures, c.deref-in-Conditional-3.ensures) at c.lower_conditional.ensures)
@@ -107,14 +102,10 @@ pub lower_field-returns : goal.lower_field-returns
 lower_field-returns t c = ok_map _ (λ i q. operand_lowered c.requires (rw c.in-Some.is at c.in_ok-operand.ensures) q) c.push_value-2.ensures
 
 pub lower-returns-in-Call : goal.lower-returns-in-Call
-lower-returns-in-Call t c =
-    let is : expr_of c.args.e.now ≡ tree.Call c.in-Call.function (exprs_of c.in-Call.list.items) = search (rules, the_lemmas, row_is_list) in
-    rw is (rw c.deref-in-Call.ensures.value at c.lower_call.ensures)
+lower-returns-in-Call t c = rw (call_is c.args.e.now c.in-Call.function c.in-Call.list c.in-Call.is) (rw c.deref-in-Call.ensures.value at c.lower_call.ensures)
 
 pub lower-returns-in-BuiltIn : goal.lower-returns-in-BuiltIn
-lower-returns-in-BuiltIn t c =
-    let is : expr_of c.args.e.now ≡ tree.BuiltIn c.in-BuiltIn.function (exprs_of c.in-BuiltIn.list.items) = search (rules, the_lemmas, row_is_list) in
-    rw is (rw c.deref-in-BuiltIn.ensures.value at c.lower_built_in.ensures)
+lower-returns-in-BuiltIn t c = rw (built_in_is c.args.e.now c.in-BuiltIn.function c.in-BuiltIn.list c.in-BuiltIn.is) (rw c.deref-in-BuiltIn.ensures.value at c.lower_built_in.ensures)
 
 pub lower-returns-in-Getline : goal.lower-returns-in-Getline
 lower-returns-in-Getline t c = rw (getline_is c.args.e.now c.in-Getline.place c.in-Getline.file c.in-Getline.is) c.lower_getline.ensures
@@ -214,9 +205,7 @@ lower_all-loop-i-preserved t c =
     (rw (is, back) (more_lowered c.loop-i.invariant.0 c.in_ok-rest.ensures), stands c.in_ok-rest.ensures)
 
 pub lower_all-returns : goal.lower_all-returns
-lower_all-returns t c =
-    let none : c.loop-i.i ≡ 0 = omega arith in
-    subst (λ k. Builds c.args.scope.now c.args.self.now c.loop-i.self c.loop-i.rest (EvaluateAll (exprs_of (drop k c.args.list.now)) c.args.next)) none c.loop-i.invariant.0
+lower_all-returns t c = built_at (λ k. EvaluateAll (exprs_of (drop k c.args.list.now)) c.args.next) c.loop-i.i 0 (omega arith) c.loop-i.invariant.0
 
 pub lower_arguments-loop-i-init : goal.lower_arguments-loop-i-init
 lower_arguments-loop-i-init t c = (rw (exprs_over c.args.list.now (length c.args.list.now) (omega arith)) (no_arguments _ c.requires), c.requires)
@@ -224,9 +213,8 @@ lower_arguments-loop-i-init t c = (rw (exprs_over c.args.list.now (length c.args
 pub lower_arguments-loop-i-preserved-then-not-takes_array : goal.lower_arguments-loop-i-preserved-then-not-takes_array
 lower_arguments-loop-i-preserved-then-not-takes_array t c =
     let bs = arrays_of c.args.self.now c.args.function in
-    let back : c.loop-i.i ≡ suc (c.loop-i.i - 1) = omega arith in
-    let rest = subst (λ k. Builds c.args.scope.now c.args.self.now c.loop-i.self c.loop-i.rest (EvaluateArguments (roles_from k bs) (exprs_of (drop k c.args.list.now)) c.args.next)) back c.loop-i.invariant.0 in
-    let is = ap (λ cs. is_array_at cs (c.loop-i.i - 1)) (sym (same_arrays c.args.function c.loop-i.invariant.0)) ∙ sym c.takes_array.ensures ∙ c.if-not-takes_array.true in (
+    let rest = built_at (λ k. EvaluateArguments (roles_from k bs) (exprs_of (drop k c.args.list.now)) c.args.next) c.loop-i.i (suc (c.loop-i.i - 1)) (omega arith) c.loop-i.invariant.0 in
+    let is = takes_still c.args.function (c.loop-i.i - 1) c.loop-i.invariant.0 c.takes_array.ensures c.if-not-takes_array.true in (
       rw (exprs_at c.args.list.now (c.loop-i.i - 1) c.index-list-i.result (omega arith) (sym c.index-list-i.is)) (value_argument bs (c.loop-i.i - 1) is rest c.in_ok-rest.ensures),
       stands c.in_ok-rest.ensures,
     )
@@ -234,16 +222,14 @@ lower_arguments-loop-i-preserved-then-not-takes_array t c =
 pub lower_arguments-loop-i-preserved : goal.lower_arguments-loop-i-preserved
 lower_arguments-loop-i-preserved t c =
     let bs = arrays_of c.args.self.now c.args.function in
-    let back : c.loop-i.i ≡ suc (c.loop-i.i - 1) = omega arith in
-    let rest = subst (λ k. Builds c.args.scope.now c.args.self.now c.loop-i.self c.loop-i.rest (EvaluateArguments (roles_from k bs) (exprs_of (drop k c.args.list.now)) c.args.next)) back c.loop-i.invariant.0 in
-    let is = ap (λ cs. is_array_at cs (c.loop-i.i - 1)) (sym (same_arrays c.args.function c.loop-i.invariant.0)) ∙ sym c.takes_array.ensures ∙ c.if-not-takes_array.false in
+    let rest = built_at (λ k. EvaluateArguments (roles_from k bs) (exprs_of (drop k c.args.list.now)) c.args.next) c.loop-i.i (suc (c.loop-i.i - 1)) (omega arith) c.loop-i.invariant.0 in
+    let is = takes_still c.args.function (c.loop-i.i - 1) c.loop-i.invariant.0 c.takes_array.ensures c.if-not-takes_array.false in
     let some = some_expr c.args.list.now (c.loop-i.i - 1) (omega arith) in
     (rw some.1 (array_argument bs (c.loop-i.i - 1) is rest), c.loop-i.invariant.1)
 
 pub lower_arguments-returns : goal.lower_arguments-returns
 lower_arguments-returns t c =
-    let none : c.loop-i.i ≡ 0 = omega arith in
-    subst (λ k. Builds c.args.scope.now c.args.self.now c.loop-i.self c.loop-i.rest (EvaluateArguments (roles_from k (arrays_of c.args.self.now c.args.function)) (exprs_of (drop k c.args.list.now)) c.args.next)) none c.loop-i.invariant.0
+    built_at (λ k. EvaluateArguments (roles_from k (arrays_of c.args.self.now c.args.function)) (exprs_of (drop k c.args.list.now)) c.args.next) c.loop-i.i 0 (omega arith) c.loop-i.invariant.0
 
 pub lower_key-returns : goal.lower_key-returns
 lower_key-returns t c =
@@ -257,8 +243,7 @@ lower_operand-returns-in-Name t c = rw (ap expr_of c.in-Name.is) (name_operand _
 
 pub lower_operand-returns-in-Element : goal.lower_operand-returns-in-Element
 lower_operand-returns-in-Element t c =
-    let is : expr_of c.args.p.now ≡ tree.Element c.in-Element.field-0 (exprs_of c.in-Element.list.items) = search (rules, the_lemmas, row_is_list) in
-    rw is (ok_map _ (λ i q. element_operand _ q) (rw c.deref.ensures.value at c.lower_key.ensures))
+    rw (element_is c.args.p.now c.in-Element.field-0 c.in-Element.list c.in-Element.is) (ok_map _ (λ i q. element_operand _ q) (rw c.deref.ensures.value at c.lower_key.ensures))
 
 pub lower_operand-returns-in-Field : goal.lower_operand-returns-in-Field
 lower_operand-returns-in-Field t c = rw (ap expr_of c.in-Field.is) (rw c.deref-in-Field.ensures at c.lower_field_number.ensures)
