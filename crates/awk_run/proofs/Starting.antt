@@ -1,5 +1,5 @@
 -- How a run begins: the names of its plan, its machine, and the state of the definitions.
-use Rattle.std.proofs.Common.{◌≡◌, ◌≢◌, codes, ℕ, zero, suc, Bool, true, false, ◌||◌, List, [], ◌∷◌, map, slice_get, Some, bytes_eq, Result, refl, sym, ap, ◌∙◌, subst}
+use Rattle.std.proofs.Common.{◌≡◌, ◌≢◌, codes, ℕ, Bool, true, false, List, [], ◌∷◌, map, bytes_eq, Result, refl, sym, ap, ◌∙◌, subst}
 use Rattle.std.specs.Global.{Vec}
 use Rattle.std.proofs.lemmas.Slice.Eq.{bytes_eq-Decides}
 use Rattle.awk_streams.specs.Oracle.{Oracle}
@@ -8,11 +8,9 @@ use Rattle.awk_streams.specs.WorldState.{WorldState}
 use Rattle.awk_grammar.specs.Tree.{Item}
 use Rattle.awk_lex.specs.declared.refusal.RefusalCode.TheVariants.{DefinedTwice}
 use Rattle.awk_kinds.specs.Variables.{name_of}
-use Rattle.awk_kinds.specs.Names.{has_name, AreDistinct}
-use Rattle.awk_kinds.specs.definitions.Fits.{has_repeat, Fits}
-use Rattle.awk_kinds.specs.definitions.Kinds.{Definition, array_names_of, definitions_of, function_names_of}
+use Rattle.awk_kinds.specs.definitions.Fits.{Fits}
+use Rattle.awk_kinds.specs.definitions.Kinds.{Definition, definitions_of, function_names_of}
 use Rattle.awk_kinds.specs.definitions.Signatures.{Signature, ProgramKinds, signature_by, signature_names, kinds_of}
-use Rattle.awk_kinds.proofs.ArrayNames.{array_names_are}
 use Rattle.awk_resolve.specs.declared.plan.Plan.{Plan}
 use Rattle.awk_resolve.proofs.Calling.{are_for}
 use Rattle.awk_resolve.specs.support.States.{AreScalars, AreFor}
@@ -34,46 +32,14 @@ use Rattle.awk_run.specs.support.Planned.{IsPlanFor, IsProgramOf, AreOfAProgram,
 use Rattle.awk_run.specs.support.Verdict.{no_streams}
 use Rattle.awk_run.proofs.PlanMeans.{functions_of}
 
--- names of which none is repeated
-
-stands : (names : List (List ℕ)) (i : ℕ) (x : List ℕ) → slice_get names i ≡ Some x → has_name names x ≡ true
-stands [] i x e = absurd (cc)
-stands (y ∷ names) zero x e =
-    let same : y ≡ x = cc in
-    ap (λ b. b || has_name names x) ((bytes_eq-Decides x y).1 (sym same))
-stands (y ∷ names) (suc i) x e = either (bytes_eq x y) (has_name names x) (stands names i x e)
-  where
-    either : (a b : Bool) → b ≡ true → (a || b) ≡ true
-    either true b h = refl
-    either false b h = h
-
-neither : (a b : Bool) → (a || b) ≡ false → (a ≡ false) × (b ≡ false)
-neither true b h = absurd (cc)
-neither false b h = (refl, h)
-
-not_both : (b : Bool) → b ≡ true → b ≡ false → ⊥
-not_both true e h = absurd (cc)
-not_both false e h = absurd (cc)
-
-distinct : (names : List (List ℕ)) → has_repeat names ≡ false → AreDistinct names
-distinct [] once i j x e h = absurd (cc)
-distinct (y ∷ names) once zero zero x e h = refl
-distinct (y ∷ names) once zero (suc j) x e h = let same : y ≡ x = cc in absurd (not_both (has_name names y) (stands names j y (h ∙ ap Some (sym same))) (neither (has_name names y) (has_repeat names) once).0)
-distinct (y ∷ names) once (suc i) zero x e h = let same : y ≡ x = cc in absurd (not_both (has_name names y) (stands names i y (e ∙ ap Some (sym same))) (neither (has_name names y) (has_repeat names) once).0)
-distinct (y ∷ names) once (suc i) (suc j) x e h = ap suc (distinct names (neither (has_name names y) (has_repeat names) once).1 i j x e h)
+-- names of functions
 
 signed_names : (ds : List Definition) → signature_names (map signature_by ds) ≡ map (λ (d : Definition). d.name) ds
 signed_names [] = refl
 signed_names (d ∷ ds) = ap (λ l. d.name ∷ l) (signed_names ds)
 
-pub distinct_arrays : {items : List Item} {plan : Plan} {kinds : ProgramKinds} → IsProgramOf items plan kinds → AreDistinct kinds.arrays
-distinct_arrays {items = items} h = subst (λ (k : ProgramKinds). AreDistinct k.arrays) (sym h.named) (distinct (array_names_of items) (array_names_are items).once)
-
 function_names : {items : List Item} {plan : Plan} {kinds : ProgramKinds} → IsProgramOf items plan kinds → signature_names kinds.functions ≡ function_names_of items
 function_names {items = items} h = ap (λ (k : ProgramKinds). signature_names k.functions) h.named ∙ signed_names (definitions_of items)
-
-pub distinct_functions : {items : List Item} {plan : Plan} {kinds : ProgramKinds} → IsProgramOf items plan kinds → AreDistinct (signature_names kinds.functions)
-distinct_functions {items = items} h = subst AreDistinct (sym (function_names h)) (distinct (function_names_of items) (h.fits DefinedTwice))
 
 -- scalars are none of awk's own
 
