@@ -87,6 +87,27 @@ IsPlain built_in.Sub = Unit {0}
 IsPlain built_in.Gsub = Unit {0}
 IsPlain f = ⊥
 
+-- all but `split`, of those that may be called
+abbrev pub IsNoSplit : BuiltInName → Type 0
+IsNoSplit built_in.Split = ⊥
+IsNoSplit f = Unit {0}
+
+pub plain_called : (own arrays : Names) (f : BuiltInName) (es : Exprs) → IsNoSplit f → may_be_called own arrays f es ≡ true → IsPlain f
+plain_called own arrays built_in.Split es other may = absurd other
+plain_called own arrays built_in.Length es other may = tt
+plain_called own arrays built_in.Substr es other may = tt
+plain_called own arrays built_in.Index es other may = tt
+plain_called own arrays built_in.Sprintf es other may = tt
+plain_called own arrays built_in.ToLower es other may = tt
+plain_called own arrays built_in.ToUpper es other may = tt
+plain_called own arrays built_in.Int es other may = tt
+plain_called own arrays built_in.Sub es other may = tt
+plain_called own arrays built_in.Gsub es other may = tt
+plain_called own arrays built_in.Match es other may = absurd (cc)
+plain_called own arrays built_in.System es other may = absurd (cc)
+plain_called own arrays built_in.Close es other may = absurd (cc)
+plain_called own arrays built_in.Fflush es other may = absurd (cc)
+
 pub may_be_taken : (own arrays : Names) (f : BuiltInName) (es : Exprs) → IsPlain f → may_be_called own arrays f es ≡ true → MayBeTaken own arrays (roles_of f) es
 may_be_taken own arrays built_in.Length es plain is = measured_taken own arrays es
 may_be_taken own arrays built_in.Substr es plain is = values_taken own arrays es

@@ -17,7 +17,7 @@ use Rattle.awk_pieces.specs.definitions.Pieceable.{is_of_record, is_array_of_rec
 use Rattle.awk_pieces.proofs.Alike.{Names, OwnsSeparators, Sorts, SetsApart, Alike, alike_within, AlikeWith, then_alike, then_where, then_with, with_any}
 use Rattle.awk_pieces.proofs.ReadsAlike.{Reads, unset_alike, left_true, right_true, lift_alike, ret_alike, ret_with, text_alike, name_alike, field_alike, number_alike, right_alike, tested_alike, choose_alike, combined_alike, record_length_alike}
 use Rattle.awk_pieces.proofs.PlacesAlike.{IsOfRecord, assign_by_alike, post_increment_alike}
-use Rattle.awk_pieces.proofs.CallsAlike.{IsKnown, AreKept, kept_append, MayBeTaken, values_taken, IsPlain, may_be_taken, plain_arguments, IsSplit, split_append, value_taken, ere_taken, measured, place_taken, built_in_alike, split_fills}
+use Rattle.awk_pieces.proofs.CallsAlike.{IsKnown, AreKept, kept_append, MayBeTaken, values_taken, IsPlain, plain_called, may_be_taken, plain_arguments, IsSplit, split_append, value_taken, ere_taken, measured, place_taken, built_in_alike, split_fills}
 use Rattle.awk_pieces.proofs.ArraysAlike.{joined_alike, read_element_alike, has_element_alike}
 use Rattle.awk_pieces.proofs.KnownNames.{within_also}
 use Rattle.awk_pieces.proofs.ValuesAndFaults.{changed_faults, applied_faults}
@@ -80,19 +80,7 @@ module _ (sorts : Sorts) (apart : SetsApart sorts) (known : Names) (base base' :
         (second_is_array sorts.own sorts.arrays es ≡ true → arguments_keep_to_record sorts.own sorts.arrays known true es ≡ true → Alike sorts known (also (is_mine sorts.own sorts.arrays) (array_split es) known) base base' (eval f (BuiltIn built_in.Split es)) (eval g (BuiltIn built_in.Split es))) →
         Keeps (eval f (BuiltIn c es)) (eval g (BuiltIn c es))
     call_alike built_in.Split es may is taken splits = alike_within (within_also (is_mine sorts.own sorts.arrays) known (array_split es)) (splits may is)
-    call_alike built_in.Length es may is taken splits = plain_call built_in.Length es tt may is taken
-    call_alike built_in.Substr es may is taken splits = plain_call built_in.Substr es tt may is taken
-    call_alike built_in.Index es may is taken splits = plain_call built_in.Index es tt may is taken
-    call_alike built_in.Sprintf es may is taken splits = plain_call built_in.Sprintf es tt may is taken
-    call_alike built_in.ToLower es may is taken splits = plain_call built_in.ToLower es tt may is taken
-    call_alike built_in.ToUpper es may is taken splits = plain_call built_in.ToUpper es tt may is taken
-    call_alike built_in.Int es may is taken splits = plain_call built_in.Int es tt may is taken
-    call_alike built_in.Sub es may is taken splits = plain_call built_in.Sub es tt may is taken
-    call_alike built_in.Gsub es may is taken splits = plain_call built_in.Gsub es tt may is taken
-    call_alike built_in.Match es may is taken splits = absurd (cc)
-    call_alike built_in.System es may is taken splits = absurd (cc)
-    call_alike built_in.Close es may is taken splits = absurd (cc)
-    call_alike built_in.Fflush es may is taken splits = absurd (cc)
+    call_alike c es may is taken splits = plain_call c es (plain_called sorts.own sorts.arrays c es tt may) may is taken
 
     mutual
       unfolding eval

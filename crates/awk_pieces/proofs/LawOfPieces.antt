@@ -391,8 +391,8 @@ module _ (items : List Item) (pieceable : IsPieceable items) (start : StartValue
     fnr = refl;
   }
 
-  opened_on : (names : Names) (v w : Values) → AgreeOn all_names v w → AgreeOn names (opened v) (opened w)
-  opened_on names v w agrees z is = ap (λ (b : Value). cond (bytes_eq (codes "FNR") z) (value.Number (pos 0)) (cond (bytes_eq (codes "FILENAME") z) (value.Input []) b)) (agrees z refl)
+  opened_on : (others : Names) (v w : Values) → AgreeOn all_names v w → AgreeOn others (opened v) (opened w)
+  opened_on others v w agrees z is = ap (λ (b : Value). cond (bytes_eq (codes "FNR") z) (value.Number (pos 0)) (cond (bytes_eq (codes "FILENAME") z) (value.Input []) b)) (agrees z refl)
 
   opened_agrees : (v w : Values) → AgreeOn all_names v w → Agrees sorts sorts.shared (with_opening base) (with_opening base) base.arrays base.arrays (opened v) (opened w)
   opened_agrees v w agrees = record {

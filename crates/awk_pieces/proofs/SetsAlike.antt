@@ -74,41 +74,11 @@ module _ (sorts : Sorts) (apart : SetsApart sorts) (known : Names) (base base' :
   -- what a call of `split` fills is known behind it
   call_fills : (c : BuiltInName) (es : Exprs) → keeps_to_record sorts.own sorts.arrays known (BuiltIn c es) ≡ true → Alike sorts known (filled (array_filled_by_call c es)) base base' (eval f (BuiltIn c es)) (eval g (BuiltIn c es))
   call_fills built_in.Split es is = split_alike sorts apart known base base' owns f g es (left_true (second_is_array sorts.own sorts.arrays es) _ is) (right_true (second_is_array sorts.own sorts.arrays es) _ is)
-  call_fills built_in.Length es is = reads (BuiltIn built_in.Length es) is
-  call_fills built_in.Substr es is = reads (BuiltIn built_in.Substr es) is
-  call_fills built_in.Index es is = reads (BuiltIn built_in.Index es) is
-  call_fills built_in.Sprintf es is = reads (BuiltIn built_in.Sprintf es) is
-  call_fills built_in.ToLower es is = reads (BuiltIn built_in.ToLower es) is
-  call_fills built_in.ToUpper es is = reads (BuiltIn built_in.ToUpper es) is
-  call_fills built_in.Int es is = reads (BuiltIn built_in.Int es) is
-  call_fills built_in.Sub es is = reads (BuiltIn built_in.Sub es) is
-  call_fills built_in.Gsub es is = reads (BuiltIn built_in.Gsub es) is
-  call_fills built_in.Match es is = absurd (cc)
-  call_fills built_in.System es is = absurd (cc)
-  call_fills built_in.Close es is = absurd (cc)
-  call_fills built_in.Fflush es is = absurd (cc)
+  call_fills c es is = reads (BuiltIn c es) is
 
   alone_fills : (e : Expr) → keeps_to_record sorts.own sorts.arrays known e ≡ true → Alike sorts known (filled (array_filled_alone e)) base base' (eval f e) (eval g e)
   alone_fills (BuiltIn c es) is = call_fills c es is
-  alone_fills (Number n) is = reads (Number n) is
-  alone_fills (String bytes) is = reads (String bytes) is
-  alone_fills (Ere text) is = reads (Ere text) is
-  alone_fills (Name x) is = reads (Name x) is
-  alone_fills (Element x es) is = reads (Element x es) is
-  alone_fills (Field a) is = reads (Field a) is
-  alone_fills (Group a) is = reads (Group a) is
-  alone_fills (Call c es) is = reads (Call c es) is
-  alone_fills Length is = reads Length is
-  alone_fills (PreIncrement c p) is = reads (PreIncrement c p) is
-  alone_fills (PostIncrement c p) is = reads (PostIncrement c p) is
-  alone_fills (Getline p file) is = reads (Getline p file) is
-  alone_fills (PipedGetline c p) is = reads (PipedGetline c p) is
-  alone_fills (Unary c a) is = reads (Unary c a) is
-  alone_fills (Binary c a b) is = reads (Binary c a b) is
-  alone_fills (Membership a x) is = reads (Membership a x) is
-  alone_fills (ListMembership es x) is = reads (ListMembership es x) is
-  alone_fills (Conditional c a b) is = reads (Conditional c a b) is
-  alone_fills (Assign c p a) is = reads (Assign c p a) is
+  alone_fills e is = reads e is
 
   assigned_fills : (c : AssignmentOperator) (p e : Expr) → keeps_to_record sorts.own sorts.arrays known (Assign c p e) ≡ true → Alike sorts known (filled (array_filled_alone e)) base base' (eval f (Assign c p e)) (eval g (Assign c p e))
   unfolding eval
@@ -123,24 +93,7 @@ module _ (sorts : Sorts) (apart : SetsApart sorts) (known : Names) (base base' :
   expression_fills : (e : Expr) → keeps_to_record sorts.own sorts.arrays known e ≡ true → Alike sorts known (filled (array_filled e)) base base' (eval f e) (eval g e)
   expression_fills (Assign c p e) is = assigned_fills c p e is
   expression_fills (BuiltIn c es) is = call_fills c es is
-  expression_fills (Number n) is = reads (Number n) is
-  expression_fills (String bytes) is = reads (String bytes) is
-  expression_fills (Ere text) is = reads (Ere text) is
-  expression_fills (Name x) is = reads (Name x) is
-  expression_fills (Element x es) is = reads (Element x es) is
-  expression_fills (Field a) is = reads (Field a) is
-  expression_fills (Group a) is = reads (Group a) is
-  expression_fills (Call c es) is = reads (Call c es) is
-  expression_fills Length is = reads Length is
-  expression_fills (PreIncrement c p) is = reads (PreIncrement c p) is
-  expression_fills (PostIncrement c p) is = reads (PostIncrement c p) is
-  expression_fills (Getline p file) is = reads (Getline p file) is
-  expression_fills (PipedGetline c p) is = reads (PipedGetline c p) is
-  expression_fills (Unary c a) is = reads (Unary c a) is
-  expression_fills (Binary c a b) is = reads (Binary c a b) is
-  expression_fills (Membership a x) is = reads (Membership a x) is
-  expression_fills (ListMembership es x) is = reads (ListMembership es x) is
-  expression_fills (Conditional c a b) is = reads (Conditional c a b) is
+  expression_fills e is = reads e is
 
   -- what is known behind an expression statement
   abbrev pub stated : Expr → Names
