@@ -1,5 +1,5 @@
 -- From a text's tokens and their tree to its program.
-use Rattle.std.proofs.Common.{◌≡◌, ◌⊎◌, inl, inr, ℕ, ◌≤◌, Bool, true, false, not, List, [], ◌∷◌, length, Option, Some, None, Result, Ok, Err, IfOk, IfErr, refl, sym, ap, ◌∙◌, subst}
+use Rattle.std.proofs.Common.{◌≡◌, ◌⊎◌, inl, inr, ℕ, ◌≤◌, true, false, List, [], ◌∷◌, length, Some, None, Ok, Err, refl, sym, ap, ◌∙◌, subst}
 use Rattle.std.proofs.lemmas.Bool.{cases_Bool}
 use Rattle.awk_lex.specs.declared.token.Kind.{Kind}
 use Rattle.awk_lex.specs.declared.token.Token.{Token}
@@ -15,7 +15,7 @@ use Rattle.awk_grammar.specs.View.{tree_of}
 use Rattle.awk_grammar.specs.declared.tree.Tree.{Tree}
 use Rattle.awk_syntax.specs.Outcome.{Reads, IsProgramWithinHeight, RefusesPattern, Justifies}
 use Rattle.awk_syntax.specs.Patterns.{AreReadable}
-use Rattle.awk_kinds.specs.definitions.Fits.{holds, first_of, in_order, first_refusal, Fits, LawOfRefusals}
+use Rattle.awk_kinds.specs.definitions.Fits.{holds, first_of, in_order, first_refusal, LawOfRefusals}
 use Rattle.awk_kinds.specs.definitions.Signatures.{Resolves}
 use Rattle.awk_run.specs.definitions.Accepted.{longest_text, IsSpelled, HasBadEre, DoesNotFit, Accepted, RefusedFor}
 

@@ -1,10 +1,9 @@
 -- The assignments before a run, and the run behind them.
-use Rattle.std.proofs.Common.{◌≡◌, ℕ, ◌≤◌, ◌<◌, ◌+◌, suc, List, [], ◌∷◌, Result, Ok, Err, length, map, drop, get_or, add-one, drop-cons, refl, sym, ap, subst}
+use Rattle.std.proofs.Common.{◌≡◌, ℕ, ◌≤◌, ◌<◌, ◌+◌, suc, List, [], ◌∷◌, Result, Ok, Err, length, map, drop, get_or, add-one, drop-cons, refl, ap}
 use Rattle.std.proofs.lemmas.List.{drop_all}
 use Rattle.awk_streams.specs.WorldState.{WorldState}
 use Rattle.awk_resolve.specs.declared.plan.Plan.{Plan}
 use Rattle.awk_semantics.specs.declared.halt.Halt.{Halt}
-use Rattle.awk_semantics.specs.definitions.State.{◌>>=◌, ret}
 use Rattle.awk_semantics.specs.definitions.Inputs.{assign_text}
 use Rattle.awk_semantics.specs.definitions.Meaning.{assign_all}
 use Rattle.awk_runtime.specs.declared.runtime.Runtime.{Runtime}

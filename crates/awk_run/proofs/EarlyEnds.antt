@@ -1,5 +1,5 @@
 -- What ends early ends the calls that are active.
-use Rattle.std.proofs.Common.{◌≡◌, ◌≤◌, List, [], ◌∷◌, append-nil, Result, Ok, Err, refl, sym, ap, ◌∙◌, subst}
+use Rattle.std.proofs.Common.{◌≡◌, ◌≤◌, List, [], ◌∷◌, append-nil, Result, Ok, Err, sym, ap, ◌∙◌, subst}
 use Rattle.awk_streams.specs.WorldState.{WorldState}
 use Rattle.awk_streams.specs.Oracle.{Oracle}
 use Rattle.awk_resolve.specs.declared.plan.Plan.{Plan}

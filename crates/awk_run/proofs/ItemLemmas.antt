@@ -4,7 +4,7 @@ use Rattle.awk_value.specs.declared.value.Value.{Value}
 use Rattle.awk_streams.specs.WorldState.{WorldState}
 use Rattle.awk_resolve.specs.declared.plan.Plan.{Plan}
 use Rattle.awk_semantics.specs.declared.halt.Halt.{Halt}
-use Rattle.awk_semantics.specs.definitions.State.{◌>>=◌, ret}
+use Rattle.awk_semantics.specs.definitions.State.{ret}
 use Rattle.awk_semantics.specs.definitions.Semantics.{choose}
 use Rattle.awk_semantics.specs.definitions.Items.{until_next, run_records}
 use Rattle.awk_runtime.specs.declared.runtime.Runtime.{Runtime}

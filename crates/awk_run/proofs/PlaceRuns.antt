@@ -1,12 +1,12 @@
 -- What a run from a place does, by what the evaluator says of it.
-use Rattle.std.proofs.Common.{◌≡◌, ℕ, ◌≤◌, List, [], Result, Ok, Err, refl, sym, ap, ◌∙◌, subst, arith}
+use Rattle.std.proofs.Common.{◌≡◌, ℕ, ◌≤◌, List, [], Result, Ok, Err, sym, ap, ◌∙◌, subst, arith}
 use Rattle.awk_value.specs.declared.value.Value.{Value}
 use Rattle.awk_streams.specs.WorldState.{WorldState}
 use Rattle.awk_grammar.specs.Tree.{Item}
 use Rattle.awk_kinds.specs.definitions.Kinds.{definitions_of}
 use Rattle.awk_resolve.specs.declared.plan.Plan.{Plan}
 use Rattle.awk_resolve.specs.support.Nodes.{Tables, cont_at}
-use Rattle.awk_resolve.specs.support.Plans.{tables_of, IsPlanOf}
+use Rattle.awk_resolve.specs.support.Plans.{tables_of}
 use Rattle.awk_semantics.specs.declared.halt.Halt.{Halt}
 use Rattle.awk_semantics.specs.definitions.Calls.{functions_within}
 use Rattle.awk_runtime.specs.support.Naming.{Naming}

@@ -1,23 +1,17 @@
 -- The functions of a plan do what calls do, where each does what the place of its body does.
-use Rattle.std.proofs.Common.{◌≡◌, ℕ, zero, suc, ◌≤◌, Bool, false, List, [], ◌∷◌, map, slice_get, unwrap_or, Option, Some, None, refl, sym, ap, ◌∙◌, subst}
+use Rattle.std.proofs.Common.{◌≡◌, ℕ, zero, suc, Bool, List, [], ◌∷◌, map, slice_get, unwrap_or, Option, Some, refl, sym, ap, ◌∙◌, subst}
 use Rattle.std.specs.Option.{option_map}
-use Rattle.awk_value.specs.declared.value.Value.{Value}
 use Rattle.awk_grammar.specs.Tree.{Item}
-use Rattle.awk_grammar.specs.Height.{height_of_block}
-use Rattle.awk_kinds.specs.definitions.Fits.{has_repeat}
-use Rattle.awk_kinds.specs.definitions.Kinds.{FormalParameter, Definition, definitions_of, function_names_of}
-use Rattle.awk_kinds.specs.definitions.Signatures.{Signature, signature_by, kinds_of}
-use Rattle.awk_semantics.specs.declared.local.Local.{Local}
-use Rattle.awk_semantics.specs.definitions.State.{State, Run, ◌>>=◌, ret}
-use Rattle.awk_semantics.specs.definitions.Primitives.{enter, leave}
-use Rattle.awk_semantics.specs.definitions.Calls.{definition_of, body_height, call_within, functions_within}
+use Rattle.awk_kinds.specs.definitions.Kinds.{FormalParameter, Definition, definitions_of}
+use Rattle.awk_kinds.specs.definitions.Signatures.{Signature, signature_by}
+use Rattle.awk_semantics.specs.definitions.Calls.{definition_of, body_height, call_within}
 use Rattle.awk_resolve.specs.declared.plan.Function.{Function as PlannedFunction}
 use Rattle.awk_resolve.specs.declared.plan.Plan.{Plan}
-use Rattle.awk_resolve.specs.support.Nodes.{cont_at, function_at}
+use Rattle.awk_resolve.specs.support.Nodes.{function_at}
 use Rattle.awk_resolve.specs.support.States.{LocalsFit}
-use Rattle.awk_resolve.specs.support.Plans.{Meaning, IsFunction, AreFunctions, tables_of, DoesIn, IsPlanOf}
+use Rattle.awk_resolve.specs.support.Plans.{Meaning, IsFunction, AreFunctions, tables_of, DoesIn}
 use Rattle.awk_resolve.proofs.Calling.{found, called}
-use Rattle.awk_evaluator.specs.Rest.{StandsFor, PlanStands}
+use Rattle.awk_evaluator.specs.Rest.{PlanStands}
 use Rattle.awk_runtime.specs.support.Naming.{Naming}
 use Rattle.awk_run.specs.support.Planned.{IsPlanFor}
 

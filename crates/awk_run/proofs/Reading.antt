@@ -1,18 +1,18 @@
 -- The main records, by what their parts do.
-use Rattle.std.proofs.Common.{◌≡◌, ℕ, ◌≤◌, ◌<◌, zero, suc, Bool, true, false, List, Some, None, Result, Ok, Err, refl, ap, ◌∙◌, arith}
+use Rattle.std.proofs.Common.{◌≡◌, ℕ, ◌≤◌, zero, suc, Bool, true, false, List, Some, None, Result, Ok, Err, refl, ap, ◌∙◌, arith}
 use Rattle.awk_value.specs.declared.value.Value.{Value}
 use Rattle.awk_streams.specs.WorldState.{WorldState}
 use Rattle.awk_resolve.specs.declared.plan.Plan.{Plan}
 use Rattle.awk_semantics.specs.declared.halt.Halt.{Halt}
-use Rattle.awk_semantics.specs.definitions.State.{Run, ◌>>=◌, ret}
+use Rattle.awk_semantics.specs.definitions.State.{Run, ◌>>=◌}
 use Rattle.awk_semantics.specs.definitions.Primitives.{spend}
 use Rattle.awk_semantics.specs.definitions.Inputs.{next_record}
 use Rattle.awk_semantics.specs.definitions.Items.{until_next, begin_record, on_record, each_record, run_records}
 use Rattle.awk_runtime.specs.declared.runtime.Runtime.{Runtime}
-use Rattle.awk_runtime.specs.support.Simulation.{Simulates, Changes, Spends, Follows}
+use Rattle.awk_runtime.specs.support.Simulation.{Changes, Spends, Follows}
 use Rattle.awk_runtime.specs.support.Inputs.{Begins, BeginsWhere}
-use Rattle.awk_run.specs.support.Planned.{place_in, part_at}
-use Rattle.awk_run.specs.support.Follows.{Part, FollowsPlan, ReadsOn, FindsNext, ReadsNext, IsSet}
+use Rattle.awk_run.specs.support.Planned.{part_at}
+use Rattle.awk_run.specs.support.Follows.{FollowsPlan, ReadsOn, FindsNext, ReadsNext, IsSet}
 use Rattle.awk_run.proofs.PlanParts.{then_follows, ends_follows, lift_follows, change_follows, world_follows, set_behind, set_follows}
 
 -- what is done with a record, and then with the others

@@ -1,26 +1,22 @@
 -- How a run begins: the names of its plan, its machine, and the state of the definitions.
-use Rattle.std.proofs.Common.{◌≡◌, ◌≢◌, codes, ℕ, Bool, true, false, List, [], ◌∷◌, map, bytes_eq, Result, refl, sym, ap, ◌∙◌, subst}
+use Rattle.std.proofs.Common.{◌≡◌, ◌≢◌, codes, ℕ, Bool, true, false, List, [], ◌∷◌, map, bytes_eq, refl, sym, ap, ◌∙◌, subst}
 use Rattle.std.specs.Global.{Vec}
 use Rattle.std.proofs.lemmas.Slice.Eq.{bytes_eq-Decides}
-use Rattle.awk_streams.specs.Oracle.{Oracle}
-use Rattle.awk_streams.specs.Streams.{StreamsView, AreOpen, AreSound}
+use Rattle.awk_streams.specs.Streams.{StreamsView, AreSound}
 use Rattle.awk_streams.specs.WorldState.{WorldState}
 use Rattle.awk_grammar.specs.Tree.{Item}
 use Rattle.awk_lex.specs.declared.refusal.RefusalCode.TheVariants.{DefinedTwice}
 use Rattle.awk_kinds.specs.Variables.{name_of}
-use Rattle.awk_kinds.specs.definitions.Fits.{Fits}
 use Rattle.awk_kinds.specs.definitions.Kinds.{Definition, definitions_of, function_names_of}
-use Rattle.awk_kinds.specs.definitions.Signatures.{Signature, ProgramKinds, signature_by, signature_names, kinds_of}
+use Rattle.awk_kinds.specs.definitions.Signatures.{ProgramKinds, signature_by, signature_names}
 use Rattle.awk_resolve.specs.declared.plan.Plan.{Plan}
 use Rattle.awk_resolve.proofs.Calling.{are_for}
 use Rattle.awk_resolve.specs.support.States.{AreScalars, AreFor}
 use Rattle.awk_resolve.specs.support.Plans.{tables_of}
-use Rattle.awk_semantics.specs.definitions.Meaning.{StartValues}
 use Rattle.awk_runtime.specs.declared.runtime.Runtime.{Runtime}
 use Rattle.awk_runtime.specs.declared.start.Assignment.{Assignment}
 use Rattle.awk_runtime.specs.support.Beginning.{start_of, IsStart}
 use Rattle.awk_runtime.specs.support.Naming.{Naming, AreOwn}
-use Rattle.awk_runtime.specs.support.Simulation.{IsReady}
 use Rattle.awk_runtime.proofs.StartRelation.{start_stands, start_open}
 use Rattle.awk_evaluator.specs.declared.machine.Machine.{Machine}
 use Rattle.awk_run.specs.declared.start.Start.{Start}

@@ -1,9 +1,8 @@
 -- What the assignments before a run do, and how a run begins.
-use Rattle.std.specs.Prelude.{◌≡◌, ℕ, List, [], None, Result}
+use Rattle.std.specs.Prelude.{◌≡◌, ℕ, List, [], Result}
 use Rattle.awk_streams.specs.WorldState.{WorldState}
 use Rattle.awk_streams.specs.Oracle.{Oracle}
 use Rattle.awk_grammar.specs.Tree.{Item}
-use Rattle.awk_resolve.specs.declared.plan.Plan.{Plan}
 use Rattle.awk_semantics.specs.declared.halt.Halt.{Halt}
 use Rattle.awk_semantics.specs.definitions.Meaning.{StartValues, start_state, assign_all}
 use Rattle.awk_runtime.specs.declared.runtime.Runtime.{Runtime}

@@ -1,4 +1,4 @@
-use Rattle.std.proofs.Common.{ap, refl, subst, sym, ◌∙◌}
+use Rattle.std.proofs.Common.{ap}
 use Rattle.awk_storage.specs.support.Frames.{FramesView}
 use Rattle.awk_run.proofs.Starting.{first_starts}
 use Rattle.awk_run.proofs.plan_run.first_machine.Goals as goal
